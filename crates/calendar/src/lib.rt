@@ -1,0 +1,100 @@
+// The proleptic Gregorian calendar: dates and times that exist, last Sundays, and the summer time of German legal time.
+ghost use mathlib.Core.Path.{_≡_};
+ghost use Prim.Native.Nat.{_≤_};
+ghost use Rattle.calendar.specs.Calendar.{isLeap, monthDays, beforeYear, beforeMonth, isDate, isTime, lastSunday, momentOf, isMesz};
+
+// Years are counted from 1200 years before the year 0.
+pub const ERA_START: u16 = 1200;
+
+const COMMON: [u32; 13] = [0, 31, 28, 31, 30, 31, 30, 31, 31, 30, 31, 30, 31];
+
+fn is_leap(year: u16) -> bool
+    ensures { λ r. ⌜ r ≡ isLeap year ⌝ }
+{
+    if year % 4 != 0 {
+        return false;
+    }
+    if year % 100 != 0 {
+        return true;
+    }
+    year % 400 == 0
+}
+
+fn month_days(year: u16, month: u8) -> u32
+    ensures { λ r. ⌜ r ≡ monthDays year month ⌝ }
+{
+    if month == 2 {
+        if is_leap(year) {
+            return 29;
+        }
+        return 28;
+    }
+    if month < 13 {
+        return COMMON[month as usize];
+    }
+    0
+}
+
+pub fn is_date(year: u16, month: u8, day: u8) -> bool
+    ensures { λ r. ⌜ r ≡ isDate year month day ⌝ }
+{
+    if day < 1 {
+        return false;
+    }
+    day as u32 <= month_days(year, month)
+}
+
+pub fn is_time(hour: u8, minute: u8) -> bool
+    ensures { λ r. ⌜ r ≡ isTime hour minute ⌝ }
+{
+    if 23 < hour {
+        return false;
+    }
+    minute <= 59
+}
+
+fn before_year(year: u16) -> u32
+    ensures { λ r. ⌜ r ≡ beforeYear year ⌝ }
+{
+    let y = year as u32;
+    y * 365 + (y + 3) / 4 + (y + 399) / 400 - (y + 99) / 100
+}
+
+fn before_month(year: u16, month: u8) -> u32
+    ensures { λ r. ⌜ r ≡ beforeMonth year month ⌝ }
+{
+    let mut n: u32 = 0;
+    let mut k: u8 = 0;
+    while k < month {
+        n += month_days(year, k);
+        k += 1;
+    }
+    n
+}
+
+// The last Sunday of a month of 31 days.
+pub fn last_sunday(year: u16, month: u8) -> u32
+    ensures { λ r. ⌜ r ≡ lastSunday year month ⌝ }
+{
+    31 - (before_year(year) + before_month(year, month) + 30 + 6) % 7
+}
+
+// MMDDhhmm as a number.
+fn moment(month: u32, day: u32, hour: u32, minute: u32) -> u32
+    requires { ⌜ (month ≤ 255) × ((day ≤ 255) × ((hour ≤ 255) × (minute ≤ 255))) ⌝ }
+    ensures { λ r. ⌜ r ≡ momentOf month day hour minute ⌝ }
+{
+    ((month * 100 + day) * 100 + hour) * 100 + minute
+}
+
+// Whether a moment, in UTC, lies in the summer time of its year.
+pub fn is_mesz(year: u16, month: u8, day: u8, hour: u8, minute: u8) -> bool
+    ensures { λ r. ⌜ r ≡ isMesz year month day hour minute ⌝ }
+{
+    let at = moment(month as u32, day as u32, hour as u32, minute as u32);
+    let from = moment(3, last_sunday(year, 3), 1, 0);
+    if at < from {
+        return false;
+    }
+    at < moment(10, last_sunday(year, 10), 1, 0)
+}

@@ -1,0 +1,60 @@
+-- The kind of a citation (document 01, `ConditionKind::of`). Assumes nothing.
+use Prim.Native.Nat.{ℕ}
+use mathlib.Core.List.{List, [], _∷_}
+use mathlib.Core.Bool.{Bool, cond, _&&_}
+use lib.Dec.{leb}
+use Rattle.refusal.specs.Result.{Result, ok, refuse}
+use Rattle.text.specs.Bytes.{begins, has}
+use Rattle.text.specs.Digits.{numberUpTo}
+use Rattle.text.specs.declared.Found.{Found}
+use Rattle.text.specs.declared.Found.the-variants.{Number, Nothing}
+use Rattle.utf8.specs.Limits.{textLimit, admitted}
+use Rattle.citation.specs.declared.ConditionKind.{ConditionKind}
+use Rattle.citation.specs.declared.ConditionKind.the-variants.{Voraussetzung, Hinweis, Format, Wiederholbarkeit, Zeitpunkt, Paket, Other}
+use Rattle.citation.specs.declared.KindAnswer.{KindAnswer}
+use Rattle.citation.specs.declared.KindAnswer.the-variants.{Known, Refused}
+
+-- a kind's number among callers
+abbrev pub kindNumber : ConditionKind → ℕ
+kindNumber Voraussetzung = 0
+kindNumber Hinweis = 1
+kindNumber Format = 2
+kindNumber Wiederholbarkeit = 3
+kindNumber Zeitpunkt = 4
+kindNumber Paket = 5
+kindNumber Other = 6
+
+-- from the one number to the other, both included
+abbrev pub within : ℕ → ℕ → ℕ → Bool
+within low high n = leb low n && leb n high
+
+-- the kind by the number's range
+unfoldable pub kindOfNumber : ℕ → ConditionKind
+kindOfNumber n =
+    cond (within 1 499 n) Voraussetzung
+    (cond (within 500 899 n) Hinweis
+    (cond (within 900 999 n) Format
+    (cond (within 2000 2499 n) Wiederholbarkeit
+    Other)))
+
+-- the largest number that a citation can name
+abbrev pub largestNumber : ℕ
+largestNumber = 4294967295
+
+-- the kind of what stands as a number, or of no number
+abbrev pub kindOfFound : Found → ConditionKind
+kindOfFound (Number n) = kindOfNumber n
+kindOfFound Nothing = Other
+
+-- the kind that a text names: `UB` in front first, then a `P`, then the number
+unfoldable pub kindOf : List ℕ → ConditionKind
+kindOf t = cond (begins (85 ∷ 66 ∷ []) t) Zeitpunkt (cond (has (80 ∷ []) t) Paket (kindOfFound (numberUpTo largestNumber t)))
+
+-- the answer on a text
+abbrev pub kindAnswer : List ℕ → Result ConditionKind
+kindAnswer t = admitted textLimit t (ok (kindOf t))
+
+-- what a KindAnswer says
+abbrev pub kindSaid : KindAnswer → Result ConditionKind
+kindSaid (Known k) = ok k
+kindSaid (Refused why) = refuse why

@@ -1,0 +1,51 @@
+-- What `evaluate` and `is_registered` answer. Assumes nothing.
+use Prim.Native.Nat.{ℕ}
+use mathlib.Core.List.{List}
+use mathlib.Core.Bool.{Bool, true, false}
+use Rattle.refusal.specs.Result.{Result, ok, refuse}
+use Rattle.utf8.specs.Limits.{textLimit, valueLimit, admitted}
+use Rattle.citation.specs.declared.Truth.{Truth}
+use Rattle.citation.specs.declared.Truth.the-variants.{False, Unknown, True}
+use Rattle.formats.specs.declared.FormatVerdict.{FormatVerdict}
+use Rattle.formats.specs.declared.FormatVerdict.the-variants.{Holds, Violated, Unregistered}
+use Rattle.formats.specs.declared.VerdictAnswer.{VerdictAnswer}
+use Rattle.formats.specs.declared.VerdictAnswer.the-variants as verdicts
+use Rattle.formats.specs.declared.RegisteredAnswer.{RegisteredAnswer}
+use Rattle.formats.specs.declared.RegisteredAnswer.the-variants as registereds
+use Rattle.formats.specs.Table.{verdict, isRegistered}
+
+-- a verdict's number among callers: that of its truth
+abbrev pub verdictNumber : FormatVerdict → ℕ
+verdictNumber Violated = 0
+verdictNumber Unregistered = 1
+verdictNumber Holds = 2
+
+-- a verdict other than Unregistered
+abbrev pub isVerdict : FormatVerdict → Bool
+isVerdict Violated = true
+isVerdict Unregistered = false
+isVerdict Holds = true
+
+-- the truth that a verdict counts as
+abbrev pub verdictTruth : FormatVerdict → Truth
+verdictTruth Violated = False
+verdictTruth Unregistered = Unknown
+verdictTruth Holds = True
+
+-- the answer on a condition's text and a value: the text is tested first
+abbrev pub verdictAnswer : List ℕ → List ℕ → Result FormatVerdict
+verdictAnswer t v = admitted textLimit t (admitted valueLimit v (ok (verdict t v)))
+
+-- what a VerdictAnswer says
+abbrev pub verdictSaid : VerdictAnswer → Result FormatVerdict
+verdictSaid (verdicts.Verdict v) = ok v
+verdictSaid (verdicts.Refused why) = refuse why
+
+-- the answer on a condition's text
+abbrev pub registeredAnswer : List ℕ → Result Bool
+registeredAnswer t = admitted textLimit t (ok (isRegistered t))
+
+-- what a RegisteredAnswer says
+abbrev pub registeredSaid : RegisteredAnswer → Result Bool
+registeredSaid (registereds.Known b) = ok b
+registeredSaid (registereds.Refused why) = refuse why

@@ -1,0 +1,12 @@
+pub mod Rules
+pub mod Presence
+pub mod Truth
+pub mod Violations
+pub mod Packages
+pub mod Answers
+pub mod Examples
+pub mod Sentences
+pub mod Sizes
+pub mod Flat
+pub mod Evaluated
+pub mod Unknown

@@ -1,0 +1,30 @@
+-- The violated citations (document 01, `violations`). Assumes nothing.
+use mathlib.Core.List.{List, [], _∷_, _++_}
+use mathlib.Core.Bool.{cond}
+use Prim.Native.Nat.{ℕ, _+_}
+use Rattle.grammar.specs.Expr.{Expr, Exprs, cite, Then, join, none, more, count}
+use Rattle.grammar.specs.Bytes.{twoBytes}
+use Rattle.semantics.specs.Rules.{isFalse}
+use Rattle.semantics.specs.Truth.{citedTruth, truth}
+
+module _ (value : List ℕ) where
+  unfoldable mutual
+    -- the numbers of an expression's violated citations, in order, its first citation having the number n
+    pub violated : ℕ → Expr → List ℕ
+    violated n (cite t) = cond (isFalse (citedTruth value t)) (n ∷ []) []
+    violated n (Then es) = violatedOf n es
+    violated n (join o es) = violatedOf n es
+
+    -- the same of operands
+    pub violatedOf : ℕ → Exprs → List ℕ
+    violatedOf n none = []
+    violatedOf n (more e es) = violated n e ++ violatedOf (n + count e) es
+
+  -- the violations: every violated citation's number if the whole is False, and nothing otherwise
+  unfoldable pub violations : Expr → List ℕ
+  violations e = cond (isFalse (truth value e)) (violated 0 e) []
+
+-- numbers as bytes, two each
+unfoldable pub numberBytes : List ℕ → List ℕ
+numberBytes [] = []
+numberBytes (n ∷ ns) = twoBytes n ++ numberBytes ns

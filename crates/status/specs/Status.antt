@@ -1,0 +1,69 @@
+-- The status words, the code of each, and which of them a receiver may check (document 01, `Status::parse`). Assumes nothing.
+use Prim.Native.Nat.{ℕ, _-_}
+use mathlib.Core.Bool.{Bool, true, false, cond}
+use mathlib.Core.List.{List, [], _∷_, _++_}
+use lib.ListN.{length, getD, replicate}
+use Rattle.text.specs.Bytes.{same}
+use Rattle.refusal.specs.Result.{Result, ok, refuse}
+use Rattle.refusal.specs.declared.Refusal.the-variants.{NoStatusWord}
+use Rattle.status.specs.declared.StatusKind.{StatusKind}
+use Rattle.status.specs.declared.StatusKind.the-variants.{Muss, Soll, Kann, X, M, S, K}
+use Rattle.status.specs.declared.Word.{Word}
+use Rattle.status.specs.declared.WordAnswer.{WordAnswer}
+use Rattle.status.specs.declared.WordAnswer.the-variants.{Is, NoWord}
+
+-- the code of a status word
+abbrev pub codeOf : StatusKind → ℕ
+codeOf Muss = 0
+codeOf Soll = 1
+codeOf Kann = 2
+codeOf X = 3
+codeOf M = 4
+codeOf S = 5
+codeOf K = 6
+
+-- the bytes of a status word
+abbrev pub wordOf : StatusKind → List ℕ
+wordOf Muss = 0x4D ∷ 0x75 ∷ 0x73 ∷ 0x73 ∷ []
+wordOf Soll = 0x53 ∷ 0x6F ∷ 0x6C ∷ 0x6C ∷ []
+wordOf Kann = 0x4B ∷ 0x61 ∷ 0x6E ∷ 0x6E ∷ []
+wordOf X = 0x58 ∷ []
+wordOf M = 0x4D ∷ []
+wordOf S = 0x53 ∷ []
+wordOf K = 0x4B ∷ []
+
+-- all kinds, in the order of their codes
+abbrev pub kinds : List StatusKind
+kinds = Muss ∷ Soll ∷ Kann ∷ X ∷ M ∷ S ∷ K ∷ []
+
+-- the kind of a code; K for what is no code
+abbrev pub kindAt : ℕ → StatusKind
+kindAt n = getD kinds n K
+
+-- the first of the kinds that has this word
+unfoldable pub kindAmong : List StatusKind → List ℕ → Result StatusKind
+kindAmong [] w = refuse NoStatusWord
+kindAmong (k ∷ ks) w = cond (same (wordOf k) w) (ok k) (kindAmong ks w)
+
+-- the kind that a word names, or refusal 9
+unfoldable pub kindOfWord : List ℕ → Result StatusKind
+kindOfWord w = kindAmong kinds w
+
+-- what `from_word` answers
+abbrev pub wordSaid : WordAnswer → Result StatusKind
+wordSaid (Is k) = ok k
+wordSaid NoWord = refuse NoStatusWord
+
+-- a word of at most four bytes as a struct holds it: the bytes, then zeros, and their number
+abbrev pub wordHeld : List ℕ → Word
+wordHeld w = record { bytes = w ++ replicate (4 - length w) 0; len = length w }
+
+-- a receiver may check Muss, M and X
+abbrev pub isReceiverCheckable : StatusKind → Bool
+isReceiverCheckable Muss = true
+isReceiverCheckable Soll = false
+isReceiverCheckable Kann = false
+isReceiverCheckable X = true
+isReceiverCheckable M = true
+isReceiverCheckable S = false
+isReceiverCheckable K = false

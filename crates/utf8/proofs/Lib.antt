@@ -1,0 +1,10 @@
+pub mod Ranges
+pub mod White
+pub mod Walk
+pub mod Rows
+pub mod Laws
+pub mod Ascii
+pub mod Encode
+pub mod Sound
+pub mod Theorems
+pub mod Limits
