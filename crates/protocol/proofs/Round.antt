@@ -1,0 +1,1 @@
+-- What is written as a field is read back, and only that. Assumes nothing.

@@ -1,0 +1,3 @@
+pub mod Hex
+pub mod Fields
+pub mod Output
