@@ -5,10 +5,12 @@ use mathlib.Core.Bool.{Bool, true, false, cond, _&&_}
 use native.Mathlib.Omega.{arith}
 use lib.Dec.{T}
 
+-- a conjunction that holds, taken apart
 pub and-both : (a b : Bool) → (a && b) ≡ true → (a ≡ true) × (b ≡ true)
 and-both true b e = (refl, e)
 and-both false b e = let z : _≡_ {A = ℕ} 0 1 = cc in absurd (omega arith)
 
+-- a conjunction of what holds
 pub and-intro : (a b : Bool) → a ≡ true → b ≡ true → (a && b) ≡ true
 and-intro true b p q = q
 and-intro false b p q = p
@@ -24,6 +26,7 @@ agree true b = b
 agree false true = false
 agree false false = true
 
+-- tests that agree are equal
 pub agreed : (a b : Bool) → T (agree a b) → a ≡ b
 agreed true true t = refl
 agreed true false t = absurd t

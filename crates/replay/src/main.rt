@@ -332,10 +332,7 @@ fn answer_all(
 )
     requires { ⌜ Ready (now first) (now second) (now out) ⌝ }
 {
-    let mut state = State {
-        len: 0,
-        waiting: 0,
-    };
+    let mut state = State { len: 0, waiting: 0 };
     let mut turns = u64::MAX;
     while turns > 0 {
         let t = read_some(state, input, line, first, second, out);

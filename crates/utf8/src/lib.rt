@@ -10,12 +10,7 @@ use refusal::Refusal;
 
 // A row of table 3-7: how many bytes follow, the second byte's range, the first byte's part of the code.
 enum Lead {
-    First {
-        more: usize,
-        low: u8,
-        high: u8,
-        code: u32,
-    },
+    First(usize, u8, u8, u32),
     Never,
 }
 
@@ -47,79 +42,34 @@ fn lead_of(b: u8) -> Lead
     ensures { λ r. ⌜ r ≡ leadOf b ⌝ }
 {
     if b < 0x80 {
-        return Lead::First {
-            more: 0,
-            low: 0x80,
-            high: 0xBF,
-            code: wide(b),
-        };
+        return Lead::First(0, 0x80, 0xBF, wide(b));
     }
     if b < 0xC2 {
         return Lead::Never;
     }
     if b < 0xE0 {
-        return Lead::First {
-            more: 1,
-            low: 0x80,
-            high: 0xBF,
-            code: wide(b - 0xC0),
-        };
+        return Lead::First(1, 0x80, 0xBF, wide(b - 0xC0));
     }
     if b < 0xE1 {
-        return Lead::First {
-            more: 2,
-            low: 0xA0,
-            high: 0xBF,
-            code: 0,
-        };
+        return Lead::First(2, 0xA0, 0xBF, 0);
     }
     if b < 0xED {
-        return Lead::First {
-            more: 2,
-            low: 0x80,
-            high: 0xBF,
-            code: wide(b - 0xE0),
-        };
+        return Lead::First(2, 0x80, 0xBF, wide(b - 0xE0));
     }
     if b < 0xEE {
-        return Lead::First {
-            more: 2,
-            low: 0x80,
-            high: 0x9F,
-            code: 13,
-        };
+        return Lead::First(2, 0x80, 0x9F, 13);
     }
     if b < 0xF0 {
-        return Lead::First {
-            more: 2,
-            low: 0x80,
-            high: 0xBF,
-            code: wide(b - 0xE0),
-        };
+        return Lead::First(2, 0x80, 0xBF, wide(b - 0xE0));
     }
     if b < 0xF1 {
-        return Lead::First {
-            more: 3,
-            low: 0x90,
-            high: 0xBF,
-            code: 0,
-        };
+        return Lead::First(3, 0x90, 0xBF, 0);
     }
     if b < 0xF4 {
-        return Lead::First {
-            more: 3,
-            low: 0x80,
-            high: 0xBF,
-            code: wide(b - 0xF0),
-        };
+        return Lead::First(3, 0x80, 0xBF, wide(b - 0xF0));
     }
     if b < 0xF5 {
-        return Lead::First {
-            more: 3,
-            low: 0x80,
-            high: 0x8F,
-            code: 4,
-        };
+        return Lead::First(3, 0x80, 0x8F, 4);
     }
     Lead::Never
 }
@@ -166,12 +116,7 @@ pub fn step_at(s: &[u8], at: usize) -> Step
     let first = lead_of(s[at]);
     match first {
         Lead::Never => Step::Bad,
-        Lead::First {
-            more,
-            low,
-            high,
-            code,
-        } => rest(s, at + 1, more, low, high, code),
+        Lead::First(more, low, high, code) => rest(s, at + 1, more, low, high, code),
     }
 }
 

@@ -68,8 +68,7 @@ returns-2 c =
     let rest = c .before .before .before .before .before .before .tail .ensures in
     let w : c .before .before .before .before .before .field-end .result ≡ fieldWidth (drop (at + 1) line) = c .before .before .before .before .before .field-end .ensures .0 ∙ ap fieldWidth rest in
     let k = rw rest at (c .before .before .before .before .before .field-end .ensures .1) in
-    let l = length-drop (at + 1) line in
-    (
+    let l = length-drop (at + 1) line in (
       (omega arith, c .before .before .decode .ensures .0),
       rw w (field-read line at (c .before .before .decode .result .good) _ (omega arith) (c .before .before .decode .ensures .1 ∙ ap fieldBytes (c .before .before .before .before .head .ensures ∙ ap₂ take w rest))),
     )

@@ -101,9 +101,9 @@ loop-again c =
     let e : length done ≡ 2 * l .i = length-hex (take (l .i) s) ∙ ap (λ (n : ℕ). 2 * n) (length-take-le (l .i) s (omega arith)) in (
       rw (c .before .digit-of .ensures, c .digit-of2 .ensures)
           (ap (λ (o : List ℕ). set (set o (l .to) x) (l .to + 1) y) (l .inv .0)
-              ∙ ap (λ (o : List ℕ). set o (l .to + 1) y) (placed-more old at done x (l .to) (omega arith) (omega arith))
-              ∙ placed-more old at (done ++ (x ∷ [])) y (l .to + 1) (simp length-append (omega arith)) (omega arith)
-              ∙ ap (placed old at) (sym (hex-more s (l .i) (omega arith)))),
+          ∙ ap (λ (o : List ℕ). set o (l .to + 1) y) (placed-more old at done x (l .to) (omega arith) (omega arith))
+          ∙ placed-more old at (done ++ (x ∷ [])) y (l .to + 1) (simp length-append (omega arith)) (omega arith)
+          ∙ ap (placed old at) (sym (hex-more s (l .i) (omega arith)))),
       omega arith,
       omega arith,
       simp length-set (l .inv .3),

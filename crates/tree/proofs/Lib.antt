@@ -1,0 +1,6 @@
+pub mod Steps
+pub mod Texts
+pub mod Spots
+pub mod Cites
+pub mod Walks
+pub mod Answers
