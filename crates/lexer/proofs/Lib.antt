@@ -1,0 +1,9 @@
+pub mod Split
+pub mod Runs
+pub mod Copies
+pub mod Limits
+pub mod Ending
+pub mod Marks
+pub mod Turns
+pub mod Joining
+pub mod Told

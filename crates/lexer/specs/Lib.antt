@@ -1,0 +1,4 @@
+pub mod Runs
+pub mod Tokens
+pub mod State
+pub mod Rebuilt
