@@ -137,23 +137,37 @@ first-of : (b : List ℕ) (i : ℕ) (es : Exprs) → forestAt b i ≡ es → fir
 unfolding firstAt
 first-of b i es h = rw h
 
--- before the first child
-pub walk-begins : (b : List ℕ) → isTree b ≡ true → (row : ℕ) → row < nodes b → (nodeKind (treeAt b row) ≡ 0 → ⊥) → Walk b row (numberAt b row) (row + 1)
-unfolding _⧺_ citationsOf
-walk-begins b h row l k =
+-- the children of the node at a row stand from the next row on, as many as its row says
+pub children-at : (b : List ℕ) → isTree b ≡ true → (row : ℕ) → row < nodes b → (nodeKind (treeAt b row) ≡ 0 → ⊥)
+    → (children (treeAt b row) ≡ firsts (numberAt b row) (forestAt b (row + 1))) × (many (children (treeAt b row)) ≡ numberAt b row)
+children-at b h row l k =
     let s = spot b h row l in
     let no : nodeKind (s .e) ≡ 0 → ⊥ = λ q. k (ap nodeKind (s .tree) ∙ q) in
     let num : numberAt b row ≡ many (children (s .e)) = s .number ∙ number-inner (s .n) (s .e) no in
     let kids : firsts (numberAt b row) (forestAt b (row + 1)) ≡ children (s .e) = rw (s .below, num) (firsts-all (children (s .e)) (s .st)) in
+    (ap children (s .tree) ∙ sym kids, ap (λ x. many (children x)) (s .tree) ∙ sym num)
+
+-- the first child's first citation is the node's
+pub first-below : (b : List ℕ) → isTree b ≡ true → (row : ℕ) → row < nodes b → (nodeKind (treeAt b row) ≡ 0 → ⊥) → firstAt b (row + 1) ≡ firstAt b row
+unfolding citationsOf
+first-below b h row l k =
+    let s = spot b h row l in
+    let no : nodeKind (s .e) ≡ 0 → ⊥ = λ q. k (ap nodeKind (s .tree) ∙ q) in
     let cited : citationsOf (children (s .e) ⧺ s .st) ≡ citationsOf (s .e ◂ s .st) =
     citations-append (children (s .e)) (s .st) ∙ ap (λ x. x ++ citationsOf (s .st)) (cites-inner (s .e) no) in
+    first-of b (row + 1) (children (s .e) ⧺ s .st) (s .below) ∙ ap (λ x. cites b - length x) cited ∙ sym (first-of b row (s .e ◂ s .st) (s .forest))
+
+-- before the first child
+pub walk-begins : (b : List ℕ) → isTree b ≡ true → (row : ℕ) → row < nodes b → (nodeKind (treeAt b row) ≡ 0 → ⊥) → Walk b row (numberAt b row) (row + 1)
+unfolding _⧺_ citationsOf
+walk-begins b h row l k =
+    let c = children-at b h row l k in
     record {
       done = none;
-      whole = ap children (s .tree) ∙ sym kids;
-      counts = ap many kids ∙ sym num;
+      whole = c .0;
+      counts = ap many (sym (c .0)) ∙ c .1;
       within = omega (arith, l);
-      number =
-          first-of b (row + 1) (children (s .e) ⧺ s .st) (s .below) ∙ ap (λ x. cites b - length x) cited ∙ sym (first-of b row (s .e ◂ s .st) (s .forest)) ∙ sym (add-zero (firstAt b row));
+      number = first-below b h row l k ∙ sym (add-zero (firstAt b row));
     }
 
 past-end : (b : List ℕ) → forestAt b (nodes b) ≡ none

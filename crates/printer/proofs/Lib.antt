@@ -1,0 +1,3 @@
+pub mod Parts
+pub mod Walks
+pub mod Whole
