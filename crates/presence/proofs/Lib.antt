@@ -1,0 +1,4 @@
+pub mod Marks
+pub mod Tallies
+pub mod Walks
+pub mod Answers
