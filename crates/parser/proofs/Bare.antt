@@ -1,15 +1,14 @@
 -- Parsing does not look at the texts of citations. Assumes nothing.
 use mathlib.Core.Path.{_≡_, refl, sym, ap, _∙_}
 use mathlib.Core.Bool.{Bool, true, false, cond}
-use mathlib.Core.List.{List, [], _∷_, _++_, map}
-use Prim.Native.Nat.{ℕ, zero, suc, _+_}
-use lib.Dec.{eqb}
-use lib.ListN.{length, drop, length-append}
-use Rattle.refusal.specs.Result.{Result, ok, refused, refuse, map-ok}
+use mathlib.Core.List.{List, [], _∷_, map}
+use Prim.Native.Nat.{ℕ, suc, _+_}
+use lib.ListN.{length, length-append}
+use Rattle.refusal.specs.Result.{Result, ok, refused, map-ok}
 use Rattle.grammar.specs.Expr.{Op, And, Or, Xor, Expr, Exprs, cite, Then, join, none, more, _◂_, _⧺_, _▸_, citations, citationsOf, count}
 use Rattle.grammar.specs.Lex.{Tok, cited, op, opening, closing, texts}
 use Rattle.grammar.specs.Parse.{same, gather, Side, lead, chain, whole, led, grow, Left, start, after, Opens, top, within, value, read, parse}
-use Rattle.grammar.specs.Rows.{Row, row, opKind, many, node, rows, rowsOf, span, spans}
+use Rattle.grammar.specs.Rows.{opKind, many, node, rows, rowsOf, span, spans}
 use Rattle.lexer.specs.Tokens.{kindOf, kindsOf}
 use Rattle.parser.specs.Packed.{packed}
 use Rattle.parser.specs.Answer.{citesIn, rowsIn}

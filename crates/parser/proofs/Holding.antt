@@ -1,16 +1,16 @@
 -- Rows that stand in the scratch: one operand more, a node's own row, and without it. Assumes nothing.
 use mathlib.Core.Path.{_≡_, refl, sym, ap, _∙_}
-use mathlib.Core.List.{List, [], _∷_, _++_, append-assoc, append-nil}
-use Prim.Native.Nat.{ℕ, zero, suc, _+_, _-_, _*_, _≤_, _<_}
+use mathlib.Core.List.{List, [], _∷_, _++_, append-assoc}
+use Prim.Native.Nat.{ℕ, suc, _+_, _-_, _≤_, _<_}
 use native.Mathlib.Numerals.{add-one}
 use native.Mathlib.Omega.{arith}
 use lib.ListN.{length, getD, take, set, length-append, length-set}
 use lib.Seq.{take-take, take-at, take-suc-set, take-set-le, length-take-le, getD-take, getD-at}
-use Rattle.grammar.specs.Expr.{Op, Expr, Exprs, cite, Then, join, none, more, _◂_, _⧺_, _▸_, citationsOf, count}
-use Rattle.grammar.specs.Rows.{opKind, thenKind, many, span, spans, children}
+use Rattle.grammar.specs.Expr.{Expr, Exprs, cite, none, more, _◂_, _▸_, citationsOf, count}
+use Rattle.grammar.specs.Rows.{span, spans, children}
 use Rattle.parser.specs.Packed.{pack, nodeRow, postorder, postorders}
 use Rattle.parser.specs.States.{Held, Front}
-use Rattle.parser.proofs.Orders.{postorder-span, postorder-spans, spans-append, cites-append, postorders-append, postorder-one, span-one, count-one, cite-span, cite-count, Root, root}
+use Rattle.parser.proofs.Orders.{postorder-spans, spans-append, cites-append, postorders-append, postorder-one, span-one, count-one, cite-span, cite-count, Root, root}
 
 -- less of what was there
 pub front-less : (m n : ℕ) (old new : List ℕ) → m ≤ n → Front n old new → Front m old new
@@ -18,9 +18,6 @@ front-less m n old new h f = sym (take-take m n new h) ∙ ap (take m) f ∙ tak
 
 pub front-set : (n : ℕ) (old : List ℕ) (i v : ℕ) → n ≤ i → Front n old (set old i v)
 front-set n old i v h = take-set-le n old i v h
-
-pub front-both : (n : ℕ) (a b c : List ℕ) → Front n a b → Front n b c → Front n a c
-front-both n a b c f g = g ∙ f
 
 module _ (start first : ℕ) (work : List ℕ) where
   -- a citation's row

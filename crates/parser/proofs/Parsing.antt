@@ -1,29 +1,25 @@
 -- All tokens: what was read and placed is what parsing says. Assumes nothing.
-use mathlib.Core.Path.{_≡_, refl, sym, ap, _∙_, subst}
-use mathlib.Core.List.{List, [], _∷_, _++_, append-nil}
-use Prim.Native.Nat.{ℕ, zero, suc, _+_, _-_, _*_, _≤_, _<_}
+use mathlib.Core.Path.{_≡_, sym, ap, _∙_}
+use mathlib.Core.List.{List, [], _++_}
+use Prim.Native.Nat.{ℕ, _+_, _-_, _*_, _≤_, _<_}
 use native.Mathlib.Omega.{arith}
 use lib.ListN.{length, take, drop}
 use lib.Seq.{take-append-seam}
-use Rattle.refusal.specs.Result.{Result, ok, refused, refuse, map-ok}
+use Rattle.refusal.specs.Result.{ok, refuse, map-ok}
 use Rattle.refusal.specs.declared.Refusal.{Refusal}
 use Rattle.refusal.specs.declared.Refusal.the-variants.{Parentheses}
 use Rattle.utf8.specs.Limits.{textLimit}
-use Rattle.grammar.specs.Expr.{Expr, Exprs, none, _◂_}
-use Rattle.grammar.specs.Lex.{Tok}
+use Rattle.grammar.specs.Expr.{Expr, none, _◂_}
 use Rattle.grammar.specs.Parse.{parse}
 use Rattle.grammar.specs.Rows.{rows, rowsOf, span, spans}
-use Rattle.lexer.specs.Tokens.{kindsOf}
 use Rattle.grammar.specs.Reading.{citationLimit}
 use Rattle.parser.specs.Packed.{packed}
-use Rattle.parser.specs.Answer.{citesIn, parsedSaid, rowsIn, Answers, Holds}
+use Rattle.parser.specs.Answer.{citesIn, rowsIn, Answers, Holds}
 use Rattle.parser.specs.Tokens.{from}
-use Rattle.parser.specs.Reading.{Chain, NoChain}
-use Rattle.parser.specs.States.{Held, Within, Tree, Ready, ChainSays, Stand, Placed}
+use Rattle.parser.specs.States.{Held, Ready, ChainSays, Stand, Placed}
 use Rattle.parser.specs.declared.Pos.{Pos}
 use Rattle.parser.specs.declared.Step.{Step}
 use Rattle.parser.specs.declared.Step.the-variants.{On, Off}
-use Rattle.parser.specs.declared.Parsed.{Parsed}
 use Rattle.parser.specs.declared.Parsed.the-variants.{Rows, Refused}
 use Rattle.parser.proofs.Steps.{parse-done, parse-left-over, parse-fails}
 use Rattle.parser.proofs.Ahead.{from-end, close-here}

@@ -1,17 +1,16 @@
 -- From postorder to the order of the tree: the last tree and those before it. Assumes nothing.
 use mathlib.Core.Path.{_≡_, refl, sym, ap, _∙_, subst}
 use mathlib.Core.Bool.{Bool, true, false, cond}
-use mathlib.Core.List.{List, [], _∷_, _++_, append-assoc, append-nil}
-use Prim.Native.Nat.{ℕ, zero, suc, _+_, _-_, _*_, _/_, _%_, _≤_, _<_}
+use mathlib.Core.List.{List, [], _∷_, _++_, append-assoc}
+use Prim.Native.Nat.{ℕ, suc, _+_, _-_, _/_, _%_, _≤_, _<_}
 use native.Mathlib.Omega.{arith}
 use lib.Dec.{eqb}
-use lib.ListN.{length, getD, take, drop, set, length-append, take-append-drop, length-set}
-use lib.Seq.{take-take, take-at, drop-at, take-suc-set, take-append-le, take-set-le, drop-set-lt, length-take-le}
+use lib.ListN.{length, getD, take, drop, set, take-append-drop}
+use lib.Seq.{take-take, drop-at, take-suc-set, take-append-le, drop-set-lt, length-take-le}
 use borrow.Author.Tests.{eqb-true, eqb-false}
-use Rattle.grammar.specs.Expr.{Op, And, Or, Xor, Expr, Exprs, cite, Then, join, none, more, _◂_, _⧺_, _▸_, citationsOf, count}
-use Rattle.grammar.specs.Rows.{thenKind, opKind, many, rows, rowsOf, span, spans, children}
+use Rattle.grammar.specs.Expr.{Expr, Exprs, none, more, _◂_, _▸_, citationsOf, count}
+use Rattle.grammar.specs.Rows.{many, rows, rowsOf, span, spans, children}
 use Rattle.grammar.specs.Shape.{rows-append}
-use Rattle.grammar.specs.Reading.{citationLimit}
 use Rattle.parser.specs.Packed.{pack, packed, kindOfRoot}
 use Rattle.parser.specs.States.{Held, Stand, Placed}
 use Rattle.parser.proofs.Orders.{kind-of-pack, number-of-pack, size-of-pack, spans-append, packed-append, rows-one, span-one, count-one, Last, last-of, Root, root}

@@ -1,15 +1,15 @@
 -- Steps of reading: atoms, juxtapositions, chains. Assumes nothing.
-use mathlib.Core.Path.{_≡_, refl, sym, ap, _∙_}
-use mathlib.Core.Bool.{Bool, true, false, true≢false, false≢true}
+use mathlib.Core.Path.{_≡_, refl, ap, _∙_}
+use mathlib.Core.Bool.{true, false, true≢false, false≢true}
 use mathlib.Core.List.{List, [], _∷_}
-use Prim.Native.Nat.{ℕ, zero, suc}
+use Prim.Native.Nat.{ℕ}
 use native.Mathlib.Omega.{arith}
-use Rattle.refusal.specs.Result.{ok, refused, refuse}
+use Rattle.refusal.specs.Result.{ok, refuse}
 use Rattle.refusal.specs.declared.Refusal.{Refusal}
 use Rattle.refusal.specs.declared.Refusal.the-variants.{MissingOperand, Parentheses}
-use Rattle.grammar.specs.Expr.{Op, And, Or, Xor, Expr, Exprs, cite, Then, join, none, more, _◂_, _⧺_, _▸_, Some, some-more}
+use Rattle.grammar.specs.Expr.{Op, And, Or, Xor, Expr, Exprs, cite, join, none, more, _◂_, _⧺_, _▸_, some-more}
 use Rattle.grammar.specs.Lex.{Tok, cited, op, opening, closing}
-use Rattle.grammar.specs.Parse.{same, gather, Side, lead, chain, whole, led, grow, Left, start, after, Opens, top, within, value, read, parse}
+use Rattle.grammar.specs.Parse.{same, gather, lead, chain, whole, led, grow, Left, start, after, Opens, top, within, value, read, parse}
 use Rattle.grammar.specs.Steps.{Ends, resume, settled}
 use Rattle.grammar.specs.Rows.{opKind}
 use Rattle.parser.specs.Tokens.{opAhead, operandAhead}

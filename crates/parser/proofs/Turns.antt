@@ -5,19 +5,18 @@ use mathlib.Core.List.{List, [], _∷_, _++_}
 use Prim.Native.Nat.{ℕ, zero, suc, _+_, _-_, _*_, _≤_, _<_}
 use native.Mathlib.Omega.{arith}
 use lib.Dec.{eqb}
-use lib.ListN.{length, getD, take, drop, set}
-use borrow.Author.Tests.{eqb-true, eqb-false, eq-eqb, ne-eqb}
+use lib.ListN.{length, getD, set}
+use borrow.Author.Tests.{eqb-true, eqb-false, ne-eqb}
 use Rattle.refusal.specs.declared.Refusal.{Refusal}
 use Rattle.refusal.specs.declared.Refusal.the-variants.{MissingOperand, Parentheses}
 use Rattle.grammar.specs.Expr.{Op, And, Or, Xor, Expr, Exprs, cite, Then, join, none, more, _◂_, _⧺_, _▸_, citations, citationsOf, count}
-use Rattle.grammar.specs.Lex.{Tok, cited, op, opening, closing}
+use Rattle.grammar.specs.Lex.{op}
 use Rattle.grammar.specs.Parse.{same, gather, led}
 use Rattle.grammar.specs.Rows.{thenKind, opKind, many, span, spans, children}
 use Rattle.grammar.specs.Reading.{citationLimit}
 use Rattle.parser.specs.Packed.{pack, kindOfRoot, operands, nodeRow, postorder, postorders}
-use Rattle.parser.specs.Answer.{citesIn}
 use Rattle.parser.specs.Tokens.{from, opAhead, operandAhead}
-use Rattle.parser.specs.Reading.{Stops, Atom, NoAtom, Run, Jux, NoJux, Waits, Links, Chain, NoChain}
+use Rattle.parser.specs.Reading.{Run, Jux, Waits, Links}
 use Rattle.parser.specs.States.{Held, Within, Tree, Ready, Front, AtomSays, JuxSays, ChainSays, Running, Before, After, Whole, Turn, noded, past, ledPos, grownPos, nodedRows, grownRows}
 use Rattle.parser.specs.declared.Pos.{Pos}
 use Rattle.parser.specs.declared.Step.{Step}
@@ -25,7 +24,7 @@ use Rattle.parser.specs.declared.Step.the-variants.{On, Off}
 use Rattle.parser.proofs.Steps.{ends-if, stops-if, atom-cite, atom-group, atom-unclosed, atom-inner, atom-missing, run-first, run-more, run-fails, run-ends, jux-fails, chain-fails, chain-lead, chain-led, chain-operand, operand-fails, chain-again, chain-other, chain-whole, same-self}
 use Rattle.parser.proofs.Ahead.{from-end, cite-here, open-here, no-operand, close-here, Sign, sign-here, op-inside, cites-cite, cites-any}
 use Rattle.parser.proofs.Orders.{many-append, many-one, span-one, count-one, root}
-use Rattle.parser.proofs.Holding.{front-less, front-set, front-both, held-cite, held-more, held-node, held-children}
+use Rattle.parser.proofs.Holding.{front-less, front-set, held-cite, held-more, held-node, held-children}
 
 -- numbers
 
@@ -39,7 +38,7 @@ module _ (s : List ℕ) (p : Pos) where
     space = omega (arith, r .space, w .left, w .room);
   }
 
-  pub ready-inner : (room : ℕ) → Ready s room p → p .at < length s → Ready s room (record { at = p .at + 1; rows = p .rows; cites = p .cites; kind = 0; kids = 0 })
+  pub ready-inner : (room : ℕ) → Ready s room p → p .at < length s → Ready s room (past p (p .kind) (p .rows) (p .kids))
   ready-inner room r h = record {
     short = r .short;
     inside = omega arith;
@@ -145,7 +144,7 @@ module _ (s : List ℕ) (p : Pos) (old : List ℕ) where
 
     module _ (open-at : getD s (p .at) 0 ≡ 5) (new : List ℕ) where
       abbrev inner : Pos
-      inner = record { at = p .at + 1; rows = p .rows; cites = p .cites; kind = 0; kids = 0 }
+      inner = past p (p .kind) (p .rows) (p .kids)
 
       pub atom-fails : (r : Step) (why : Refusal) → r ≡ Off why → ChainSays s inner old new r → AtomSays s p old new (Off why)
       atom-fails r why e h =
@@ -158,7 +157,7 @@ module _ (s : List ℕ) (p : Pos) (old : List ℕ) where
           rw (open-here s (p .at) here open-at) (atom-unclosed (rw (from-end s (q .at) (omega arith)) at (g .1)))
 
       pub atom-grouped : (r : Step) (q : Pos) → r ≡ On q → ChainSays s inner old new r → ¬ (q .at ≡ length s)
-          → AtomSays s p old new (On (record { at = q .at + 1; rows = q .rows; cites = q .cites; kind = q .kind; kids = q .kids }))
+          → AtomSays s p old new (On (past q (q .kind) (q .rows) (q .kids)))
       atom-grouped r q e h z =
           let g : ChainSays s inner old new (On q) = rw e at h in
           let t = g .2 in

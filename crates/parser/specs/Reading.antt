@@ -5,7 +5,7 @@ use Rattle.refusal.specs.Result.{refuse}
 use Rattle.refusal.specs.declared.Refusal.{Refusal}
 use Rattle.grammar.specs.Expr.{Op, Expr, Exprs, none, more, _◂_, _▸_, Some}
 use Rattle.grammar.specs.Lex.{Tok, cited, op, opening, closing}
-use Rattle.grammar.specs.Parse.{Side, lead, chain, whole, grow, Left, start, after, Opens, value, read}
+use Rattle.grammar.specs.Parse.{Side, chain, whole, grow, Left, start, after, Opens, value, read}
 use Rattle.grammar.specs.Steps.{Ends, resume}
 
 -- an operand is due after the run, or one follows

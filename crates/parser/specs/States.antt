@@ -1,7 +1,7 @@
 -- What the parser's own functions say of the tokens read and the rows written. Assumes nothing.
 use mathlib.Core.Path.{_≡_}
-use mathlib.Core.Bool.{Bool, cond}
-use mathlib.Core.List.{List, [], _∷_, _++_}
+use mathlib.Core.Bool.{cond}
+use mathlib.Core.List.{List, _++_}
 use Prim.Native.Nat.{ℕ, zero, suc, _+_, _-_, _*_, _≤_, _<_}
 use lib.Dec.{eqb}
 use lib.ListN.{length, take, drop, set}
@@ -120,9 +120,9 @@ Turn s p work (suc k) q = Before s p work q
 abbrev pub noded : Pos → Pos
 noded q = record { at = q .at; rows = q .rows + 1; cites = q .cites; kind = q .kind; kids = q .kids }
 
--- past an operator of the kind `sign`, with so many rows and operands
-abbrev pub past : Pos → (sign rows kids : ℕ) → Pos
-past q sign rows kids = record { at = q .at + 1; rows = rows; cites = q .cites; kind = sign; kids = kids }
+-- one token on, with this kind and so many rows and operands
+abbrev pub past : Pos → (kind rows kids : ℕ) → Pos
+past q kind rows kids = record { at = q .at + 1; rows = rows; cites = q .cites; kind = kind; kids = kids }
 
 -- what a lead gives to the chain of the operator after it: its own operands if it is a node of that operator, else itself
 abbrev pub ledPos : Pos → ℕ → Pos

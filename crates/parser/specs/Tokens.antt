@@ -3,7 +3,7 @@ use mathlib.Core.Bool.{Bool, true, false}
 use mathlib.Core.List.{List, [], _∷_, map}
 use Prim.Native.Nat.{ℕ, zero, suc}
 use lib.ListN.{drop}
-use Rattle.grammar.specs.Expr.{Op, And, Or, Xor}
+use Rattle.grammar.specs.Expr.{And, Or, Xor}
 use Rattle.grammar.specs.Lex.{Tok, cited, op, opening, closing}
 use Rattle.grammar.specs.Rows.{opKind}
 

@@ -5,7 +5,7 @@ use lexer::OPENING;
 use lexer::XOR;
 use refusal::Refusal;
 ghost use mathlib.Core.Path.{_≡_};
-ghost use Prim.Native.Nat.{ℕ, _+_, _*_, _-_, _/_, _%_, _≤_, _<_};
+ghost use Prim.Native.Nat.{_+_, _*_, _-_, _/_, _%_, _≤_, _<_};
 ghost use mathlib.Core.Bool.{cond};
 ghost use lib.Dec.{eqb};
 ghost use lib.ListN.{length};
@@ -14,7 +14,7 @@ ghost use Rattle.grammar.specs.Reading.{citationLimit};
 ghost use Rattle.parser.specs.Packed.{pack};
 ghost use Rattle.parser.specs.Answer.{citesIn, Answers, Holds};
 ghost use Rattle.parser.specs.Tokens.{from, opAhead, operandAhead};
-ghost use Rattle.parser.specs.States.{Ready, AtomSays, JuxSays, ChainSays, noded, ledPos, grownPos, nodedRows, grownRows, Stand, Placed};
+ghost use Rattle.parser.specs.States.{Ready, AtomSays, JuxSays, ChainSays, noded, past, ledPos, grownPos, nodedRows, grownRows, Stand, Placed};
 
 // The kind of a Then's row; those of citations and operators are those of their tokens.
 const THEN: u8 = 1;
@@ -177,6 +177,20 @@ fn grow(work: &mut [u64], start: usize, q: Pos, op: u8) -> Pos
     }
 }
 
+// One token on.
+fn past_token(q: Pos) -> Pos
+    requires { ⌜ q .at ≤ textLimit ⌝ }
+    ensures { λ r. ⌜ r ≡ past q (q .kind) (q .rows) (q .kids) ⌝ }
+{
+    Pos {
+        at: q.at + 1,
+        rows: q.rows,
+        cites: q.cites,
+        kind: q.kind,
+        kids: q.kids,
+    }
+}
+
 // A citation, or a group in parentheses.
 fn parse_atom(toks: &[u8], work: &mut [u64], p: Pos) -> Step
     requires { ⌜ Ready (now toks) (length (now work)) p ⌝ }
@@ -188,14 +202,7 @@ fn parse_atom(toks: &[u8], work: &mut [u64], p: Pos) -> Step
     }
     let kind = toks[at];
     if kind == OPENING {
-        let inner = Pos {
-            at: at + 1,
-            rows: p.rows,
-            cites: p.cites,
-            kind: 0,
-            kids: 0,
-        };
-        match parse_chain(toks, work, inner) {
+        match parse_chain(toks, work, past_token(p)) {
             Step::Off(why) => {
                 return Step::Off(why);
             }
@@ -203,13 +210,7 @@ fn parse_atom(toks: &[u8], work: &mut [u64], p: Pos) -> Step
                 if q.at == toks.len() {
                     return Step::Off(Refusal::Parentheses);
                 }
-                return Step::On(Pos {
-                    at: q.at + 1,
-                    rows: q.rows,
-                    cites: q.cites,
-                    kind: q.kind,
-                    kids: q.kids,
-                });
+                return Step::On(past_token(q));
             }
         }
     }

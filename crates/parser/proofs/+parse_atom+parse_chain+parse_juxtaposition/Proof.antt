@@ -24,6 +24,7 @@ use Rattle.parser.proofs.led.Reads as led-reads
 use Rattle.parser.proofs.op_at.Reads as op-at-reads
 use Rattle.parser.proofs.operand_at.Reads as operand-at-reads
 use Rattle.parser.proofs.pack_row.Reads as pack-row-reads
+use Rattle.parser.proofs.past_token.Reads as past-token-reads
 use Rattle.parser.proofs.+parse_atom+parse_chain+parse_juxtaposition.{statement}
 use Rattle.parser.proofs.+parse_atom+parse_chain+parse_juxtaposition.Tie.{close}
 
@@ -68,8 +69,9 @@ parse-juxtaposition-below t =
     (falls 2 parse-juxtaposition-kinds.ps _<_ μ-parse-juxtaposition t)
     parse-juxtaposition.Pre
 
--- src/lib.rt:175:9
 parse-atom-returns : (t : ℕ) → parse-atom-lts.Need-returns (
+  past-token-reads.Asked,
+  past-token-reads.Learnt,
   parse-chain-below t,
   parse-chain.Post,
   pack-row-reads.Asked,
@@ -78,8 +80,9 @@ parse-atom-returns : (t : ℕ) → parse-atom-lts.Need-returns (
 parse-atom-returns t c = let s = c .before .before .before .args .toks .now in let p = c .before .before .before .args .p in let old = c .before .before .before .args .work .now in let ready = c .before .before .before .pre .1 in
     atom-at-end s p old (c .if1 .taken)
 
--- src/lib.rt:177:16
 parse-atom-shared-slice-read-kind : (t : ℕ) → parse-atom-lts.Need-shared-slice-read-kind (
+  past-token-reads.Asked,
+  past-token-reads.Learnt,
   parse-chain-below t,
   parse-chain.Post,
   pack-row-reads.Asked,
@@ -87,28 +90,32 @@ parse-atom-shared-slice-read-kind : (t : ℕ) → parse-atom-lts.Need-shared-sli
 ) (parse-atom-at t) parse-atom.Post
 parse-atom-shared-slice-read-kind t c = search needs
 
--- src/lib.rt:179:31
-parse-atom-add-t15 : (t : ℕ) → parse-atom-lts.Need-add-t15 (
+parse-atom-past-token-requires : (t : ℕ) → parse-atom-lts.Need-past-token-requires (
+  past-token-reads.Asked,
+  past-token-reads.Learnt,
   parse-chain-below t,
   parse-chain.Post,
   pack-row-reads.Asked,
   pack-row-reads.Learnt,
 ) (parse-atom-at t) parse-atom.Post
-parse-atom-add-t15 t c = search needs
+parse-atom-past-token-requires t c κs = let s = c .before .before .before .before .before .before .args .toks .now in let p = c .before .before .before .before .before .before .args .p in let old = c .before .before .before .before .before .before .args .work .now in let ready = c .before .before .before .before .before .before .pre .1 in
+    omega (arith, ready .inside, ready .short)
 
--- src/lib.rt:180:15
 parse-atom-parse-chain-requires : (t : ℕ) → parse-atom-lts.Need-parse-chain-requires (
+  past-token-reads.Asked,
+  past-token-reads.Learnt,
   parse-chain-below t,
   parse-chain.Post,
   pack-row-reads.Asked,
   pack-row-reads.Learnt,
 ) (parse-atom-at t) parse-atom.Post
-parse-atom-parse-chain-requires t c κs = let s = c .before .before .before .before .before .before .args .toks .now in let p = c .before .before .before .before .before .before .args .p in let old = c .before .before .before .before .before .before .args .work .now in let ready = c .before .before .before .before .before .before .pre .1 in
+parse-atom-parse-chain-requires t c κs = let s = c .before .before .before .before .before .before .before .args .toks .now in let p = c .before .before .before .before .before .before .before .args .p in let old = c .before .before .before .before .before .before .before .args .work .now in let ready = c .before .before .before .before .before .before .before .pre .1 in
     let here : p .at < length s = omega (arith, ready .inside) in
-    (omega (arith, c .before .before .before .before .before .before .pre .0, ready .inside), ready-inner s p (length old) ready here)
+    rw (c .past-token .ensures) (omega (arith, c .before .before .before .before .before .before .before .pre .0, ready .inside), ready-inner s p (length old) ready here)
 
--- src/lib.rt:181:23
 parse-atom-enum-known-why : (t : ℕ) → parse-atom-lts.Need-enum-known-why (
+  past-token-reads.Asked,
+  past-token-reads.Learnt,
   parse-chain-below t,
   parse-chain.Post,
   pack-row-reads.Asked,
@@ -116,8 +123,9 @@ parse-atom-enum-known-why : (t : ℕ) → parse-atom-lts.Need-enum-known-why (
 ) (parse-atom-at t) parse-atom.Post
 parse-atom-enum-known-why t c = search needs
 
--- src/lib.rt:182:17
 parse-atom-same-length : (t : ℕ) → parse-atom-lts.Need-same-length (
+  past-token-reads.Asked,
+  past-token-reads.Learnt,
   parse-chain-below t,
   parse-chain.Post,
   pack-row-reads.Asked,
@@ -125,19 +133,21 @@ parse-atom-same-length : (t : ℕ) → parse-atom-lts.Need-same-length (
 ) (parse-atom-at t) parse-atom.Post
 parse-atom-same-length t c = search needs
 
--- src/lib.rt:182:17
 parse-atom-returns-2 : (t : ℕ) → parse-atom-lts.Need-returns-2 (
+  past-token-reads.Asked,
+  past-token-reads.Learnt,
   parse-chain-below t,
   parse-chain.Post,
   pack-row-reads.Asked,
   pack-row-reads.Learnt,
 ) (parse-atom-at t) parse-atom.Post
-parse-atom-returns-2 t c = let s = c .before .before .before .before .before .before .before .before .before .before .before .before .args .toks .now in let p = c .before .before .before .before .before .before .before .before .before .before .before .before .args .p in let old = c .before .before .before .before .before .before .before .before .before .before .before .before .args .work .now in let ready = c .before .before .before .before .before .before .before .before .before .before .before .before .pre .1 in
+parse-atom-returns-2 t c = let s = c .before .before .before .before .before .before .before .before .before .before .before .before .before .args .toks .now in let p = c .before .before .before .before .before .before .before .before .before .before .before .before .before .args .p in let old = c .before .before .before .before .before .before .before .before .before .before .before .before .before .args .work .now in let ready = c .before .before .before .before .before .before .before .before .before .before .before .before .before .pre .1 in
     let here : p .at < length s = omega (arith, ready .inside) in
-    atom-fails s p old here (c .before .before .before .before .before .before .before .if2 .taken) (c .before .before .before .before .before .parse-chain .last .1 .0) _ (c .before .why .given .0 .0) (c .before .why .given .1) (c .before .before .before .before .before .parse-chain .ensures)
+    atom-fails s p old here (c .before .before .before .before .before .before .before .before .if2 .taken) (c .before .before .before .before .before .parse-chain .last .1 .0) _ (c .before .why .given .0 .0) (c .before .why .given .1) (rw (c .before .before .before .before .before .before .past-token .ensures) at (c .before .before .before .before .before .parse-chain .ensures))
 
--- src/lib.rt:184:22
 parse-atom-enum-known-q : (t : ℕ) → parse-atom-lts.Need-enum-known-q (
+  past-token-reads.Asked,
+  past-token-reads.Learnt,
   parse-chain-below t,
   parse-chain.Post,
   pack-row-reads.Asked,
@@ -145,8 +155,9 @@ parse-atom-enum-known-q : (t : ℕ) → parse-atom-lts.Need-enum-known-q (
 ) (parse-atom-at t) parse-atom.Post
 parse-atom-enum-known-q t c = search needs
 
--- src/lib.rt:186:21
 parse-atom-same-length-2 : (t : ℕ) → parse-atom-lts.Need-same-length-2 (
+  past-token-reads.Asked,
+  past-token-reads.Learnt,
   parse-chain-below t,
   parse-chain.Post,
   pack-row-reads.Asked,
@@ -154,29 +165,32 @@ parse-atom-same-length-2 : (t : ℕ) → parse-atom-lts.Need-same-length-2 (
 ) (parse-atom-at t) parse-atom.Post
 parse-atom-same-length-2 t c = search needs
 
--- src/lib.rt:186:21
 parse-atom-returns-3 : (t : ℕ) → parse-atom-lts.Need-returns-3 (
+  past-token-reads.Asked,
+  past-token-reads.Learnt,
   parse-chain-below t,
   parse-chain.Post,
   pack-row-reads.Asked,
   pack-row-reads.Learnt,
 ) (parse-atom-at t) parse-atom.Post
-parse-atom-returns-3 t c = let s = c .before .before .before .before .before .before .before .before .before .before .before .before .before .before .args .toks .now in let p = c .before .before .before .before .before .before .before .before .before .before .before .before .before .before .args .p in let old = c .before .before .before .before .before .before .before .before .before .before .before .before .before .before .args .work .now in let ready = c .before .before .before .before .before .before .before .before .before .before .before .before .before .before .pre .1 in
+parse-atom-returns-3 t c = let s = c .before .before .before .before .before .before .before .before .before .before .before .before .before .before .before .args .toks .now in let p = c .before .before .before .before .before .before .before .before .before .before .before .before .before .before .before .args .p in let old = c .before .before .before .before .before .before .before .before .before .before .before .before .before .before .before .args .work .now in let ready = c .before .before .before .before .before .before .before .before .before .before .before .before .before .before .before .pre .1 in
     let here : p .at < length s = omega (arith, ready .inside) in
-    atom-open s p old here (c .before .before .before .before .before .before .before .before .before .if2 .taken) (c .before .before .before .before .before .before .before .parse-chain .last .1 .0) _ (c .before .before .before .q .given .0 .0) (c .before .before .before .q .given .1) (c .before .before .before .before .before .before .before .parse-chain .ensures) (c .if3 .taken)
+    atom-open s p old here (c .before .before .before .before .before .before .before .before .before .before .if2 .taken) (c .before .before .before .before .before .before .before .parse-chain .last .1 .0) _ (c .before .before .before .q .given .0 .0) (c .before .before .before .q .given .1) (rw (c .before .before .before .before .before .before .before .before .past-token .ensures) at (c .before .before .before .before .before .before .before .parse-chain .ensures)) (c .if3 .taken)
 
--- src/lib.rt:188:43
-parse-atom-add-t19 : (t : ℕ) → parse-atom-lts.Need-add-t19 (
+parse-atom-past-token-requires-2 : (t : ℕ) → parse-atom-lts.Need-past-token-requires-2 (
+  past-token-reads.Asked,
+  past-token-reads.Learnt,
   parse-chain-below t,
   parse-chain.Post,
   pack-row-reads.Asked,
   pack-row-reads.Learnt,
 ) (parse-atom-at t) parse-atom.Post
-parse-atom-add-t19 t c = let s = c .before .before .before .before .before .before .before .before .before .before .before .before .before .before .before .args .toks .now in let p = c .before .before .before .before .before .before .before .before .before .before .before .before .before .before .before .args .p in let old = c .before .before .before .before .before .before .before .before .before .before .before .before .before .before .before .args .work .now in let ready = c .before .before .before .before .before .before .before .before .before .before .before .before .before .before .before .pre .1 in
-    let h = rw (c .before .before .before .before .q .given .1) at (c .before .before .before .before .before .before .before .before .parse-chain .ensures) in let w = h .2 .within in omega (arith, w .inside, ready .short)
+parse-atom-past-token-requires-2 t c κs = let s = c .before .before .before .before .before .before .before .before .before .before .before .before .before .before .before .args .toks .now in let p = c .before .before .before .before .before .before .before .before .before .before .before .before .before .before .before .args .p in let old = c .before .before .before .before .before .before .before .before .before .before .before .before .before .before .before .args .work .now in let ready = c .before .before .before .before .before .before .before .before .before .before .before .before .before .before .before .pre .1 in
+    let h = rw (c .before .before .before .q .given .1) at (c .before .before .before .before .before .before .before .parse-chain .ensures) in let w = h .2 .within in omega (arith, w .inside, ready .short)
 
--- src/lib.rt:188:17
 parse-atom-same-length-3 : (t : ℕ) → parse-atom-lts.Need-same-length-3 (
+  past-token-reads.Asked,
+  past-token-reads.Learnt,
   parse-chain-below t,
   parse-chain.Post,
   pack-row-reads.Asked,
@@ -184,19 +198,21 @@ parse-atom-same-length-3 : (t : ℕ) → parse-atom-lts.Need-same-length-3 (
 ) (parse-atom-at t) parse-atom.Post
 parse-atom-same-length-3 t c = search needs
 
--- src/lib.rt:188:17
 parse-atom-returns-4 : (t : ℕ) → parse-atom-lts.Need-returns-4 (
+  past-token-reads.Asked,
+  past-token-reads.Learnt,
   parse-chain-below t,
   parse-chain.Post,
   pack-row-reads.Asked,
   pack-row-reads.Learnt,
 ) (parse-atom-at t) parse-atom.Post
-parse-atom-returns-4 t c = let s = c .before .before .before .before .before .before .before .before .before .before .before .before .before .before .before .args .toks .now in let p = c .before .before .before .before .before .before .before .before .before .before .before .before .before .before .before .args .p in let old = c .before .before .before .before .before .before .before .before .before .before .before .before .before .before .before .args .work .now in let ready = c .before .before .before .before .before .before .before .before .before .before .before .before .before .before .before .pre .1 in
+parse-atom-returns-4 t c = let s = c .before .before .before .before .before .before .before .before .before .before .before .before .before .before .before .before .args .toks .now in let p = c .before .before .before .before .before .before .before .before .before .before .before .before .before .before .before .before .args .p in let old = c .before .before .before .before .before .before .before .before .before .before .before .before .before .before .before .before .args .work .now in let ready = c .before .before .before .before .before .before .before .before .before .before .before .before .before .before .before .before .pre .1 in
     let here : p .at < length s = omega (arith, ready .inside) in
-    atom-grouped s p old here (c .before .before .before .before .before .before .before .before .before .before .if2 .taken) (c .before .before .before .before .before .before .before .before .parse-chain .last .1 .0) _ (c .before .before .before .before .q .given .0 .0) (c .before .before .before .before .q .given .1) (c .before .before .before .before .before .before .before .before .parse-chain .ensures) (c .before .if3 .left)
+    rw (c .past-token2 .ensures) (atom-grouped s p old here (c .before .before .before .before .before .before .before .before .before .before .before .if2 .taken) (c .before .before .before .before .before .before .before .before .parse-chain .last .1 .0) _ (c .before .before .before .before .q .given .0 .0) (c .before .before .before .before .q .given .1) (rw (c .before .before .before .before .before .before .before .before .before .past-token .ensures) at (c .before .before .before .before .before .before .before .before .parse-chain .ensures)) (c .before .if3 .left))
 
--- src/lib.rt:193:9
 parse-atom-returns-5 : (t : ℕ) → parse-atom-lts.Need-returns-5 (
+  past-token-reads.Asked,
+  past-token-reads.Learnt,
   parse-chain-below t,
   parse-chain.Post,
   pack-row-reads.Asked,
@@ -206,8 +222,9 @@ parse-atom-returns-5 t c = let s = c .before .before .before .before .before .be
     let here : p .at < length s = omega (arith, ready .inside) in
     atom-none s p old here (c .before .if2 .left) (c .if4 .taken)
 
--- src/lib.rt:196:17
 parse-atom-pack-row-requires : (t : ℕ) → parse-atom-lts.Need-pack-row-requires (
+  past-token-reads.Asked,
+  past-token-reads.Learnt,
   parse-chain-below t,
   parse-chain.Post,
   pack-row-reads.Asked,
@@ -218,8 +235,9 @@ parse-atom-pack-row-requires t c κs = let s = c .before .before .before .before
     let z = cites-cite s (p .at) here (c .if4 .left) in
     (omega (arith, ready .few, z), omega arith)
 
--- src/lib.rt:196:5
 parse-atom-mul-work : (t : ℕ) → parse-atom-lts.Need-mul-work (
+  past-token-reads.Asked,
+  past-token-reads.Learnt,
   parse-chain-below t,
   parse-chain.Post,
   pack-row-reads.Asked,
@@ -227,8 +245,9 @@ parse-atom-mul-work : (t : ℕ) → parse-atom-lts.Need-mul-work (
 ) (parse-atom-at t) parse-atom.Post
 parse-atom-mul-work t c = search needs
 
--- src/lib.rt:196:5
 parse-atom-slice-write-work : (t : ℕ) → parse-atom-lts.Need-slice-write-work (
+  past-token-reads.Asked,
+  past-token-reads.Learnt,
   parse-chain-below t,
   parse-chain.Post,
   pack-row-reads.Asked,
@@ -239,17 +258,29 @@ parse-atom-slice-write-work t c = let s = c .before .before .before .before .bef
     let z = cites-cite s (p .at) here (c .before .if4 .left) in
     omega (arith, ready .space, z)
 
--- src/lib.rt:197:24
-parse-atom-add-t10 : (t : ℕ) → parse-atom-lts.Need-add-t10 (
+parse-atom-add-t9 : (t : ℕ) → parse-atom-lts.Need-add-t9 (
+  past-token-reads.Asked,
+  past-token-reads.Learnt,
   parse-chain-below t,
   parse-chain.Post,
   pack-row-reads.Asked,
   pack-row-reads.Learnt,
 ) (parse-atom-at t) parse-atom.Post
-parse-atom-add-t10 t c = search needs
+parse-atom-add-t9 t c = search needs
 
--- src/lib.rt:197:38
+parse-atom-add-t25 : (t : ℕ) → parse-atom-lts.Need-add-t25 (
+  past-token-reads.Asked,
+  past-token-reads.Learnt,
+  parse-chain-below t,
+  parse-chain.Post,
+  pack-row-reads.Asked,
+  pack-row-reads.Learnt,
+) (parse-atom-at t) parse-atom.Post
+parse-atom-add-t25 t c = search needs
+
 parse-atom-add-t26 : (t : ℕ) → parse-atom-lts.Need-add-t26 (
+  past-token-reads.Asked,
+  past-token-reads.Learnt,
   parse-chain-below t,
   parse-chain.Post,
   pack-row-reads.Asked,
@@ -257,17 +288,9 @@ parse-atom-add-t26 : (t : ℕ) → parse-atom-lts.Need-add-t26 (
 ) (parse-atom-at t) parse-atom.Post
 parse-atom-add-t26 t c = search needs
 
--- src/lib.rt:197:54
-parse-atom-add-t27 : (t : ℕ) → parse-atom-lts.Need-add-t27 (
-  parse-chain-below t,
-  parse-chain.Post,
-  pack-row-reads.Asked,
-  pack-row-reads.Learnt,
-) (parse-atom-at t) parse-atom.Post
-parse-atom-add-t27 t c = search needs
-
--- src/lib.rt:169:1
 parse-atom-same-length-4 : (t : ℕ) → parse-atom-lts.Need-same-length-4 (
+  past-token-reads.Asked,
+  past-token-reads.Learnt,
   parse-chain-below t,
   parse-chain.Post,
   pack-row-reads.Asked,
@@ -275,8 +298,9 @@ parse-atom-same-length-4 : (t : ℕ) → parse-atom-lts.Need-same-length-4 (
 ) (parse-atom-at t) parse-atom.Post
 parse-atom-same-length-4 t c = search needs
 
--- src/lib.rt:169:1
 parse-atom-returns-6 : (t : ℕ) → parse-atom-lts.Need-returns-6 (
+  past-token-reads.Asked,
+  past-token-reads.Learnt,
   parse-chain-below t,
   parse-chain.Post,
   pack-row-reads.Asked,
@@ -294,7 +318,6 @@ parse-chain-Inv-loop toks work₀ p op₀ q₀ work op q =
 abbrev parse-chain-μ-loop : parse-chain-lts.MeasureT-loop
 parse-chain-μ-loop toks work₀ p op₀ q₀ work op q = length toks - q .at
 
--- src/lib.rt:235:11
 parse-chain-parse-juxtaposition-requires :
     (t : ℕ) → parse-chain-lts.Need-parse-juxtaposition-requires (
       parse-juxtaposition-below t,
@@ -309,7 +332,6 @@ parse-chain-parse-juxtaposition-requires :
 parse-chain-parse-juxtaposition-requires t c κs = let s = c .before .before .before .args .toks .now in let p = c .before .before .before .args .p in let old = c .before .before .before .args .work .now in let ready = c .before .before .before .pre .1 in
     (omega (arith, c .before .before .before .pre .0), ready)
 
--- src/lib.rt:236:19
 parse-chain-enum-known-why : (t : ℕ) → parse-chain-lts.Need-enum-known-why (
   parse-juxtaposition-below t,
   parse-juxtaposition.Post,
@@ -322,7 +344,6 @@ parse-chain-enum-known-why : (t : ℕ) → parse-chain-lts.Need-enum-known-why (
 ) (parse-chain-at t) parse-chain.Post parse-chain-Inv-loop parse-chain-μ-loop
 parse-chain-enum-known-why t c = search needs
 
--- src/lib.rt:237:18
 parse-chain-enum-known-lead : (t : ℕ) → parse-chain-lts.Need-enum-known-lead (
   parse-juxtaposition-below t,
   parse-juxtaposition.Post,
@@ -335,7 +356,6 @@ parse-chain-enum-known-lead : (t : ℕ) → parse-chain-lts.Need-enum-known-lead
 ) (parse-chain-at t) parse-chain.Post parse-chain-Inv-loop parse-chain-μ-loop
 parse-chain-enum-known-lead t c = search needs
 
--- src/lib.rt:238:17
 parse-chain-op-at-requires : (t : ℕ) → parse-chain-lts.Need-op-at-requires (
   parse-juxtaposition-below t,
   parse-juxtaposition.Post,
@@ -348,7 +368,6 @@ parse-chain-op-at-requires : (t : ℕ) → parse-chain-lts.Need-op-at-requires (
 ) (parse-chain-at t) parse-chain.Post parse-chain-Inv-loop parse-chain-μ-loop
 parse-chain-op-at-requires t c κs = search needs
 
--- src/lib.rt:240:17
 parse-chain-same-length : (t : ℕ) → parse-chain-lts.Need-same-length (
   parse-juxtaposition-below t,
   parse-juxtaposition.Post,
@@ -361,7 +380,6 @@ parse-chain-same-length : (t : ℕ) → parse-chain-lts.Need-same-length (
 ) (parse-chain-at t) parse-chain.Post parse-chain-Inv-loop parse-chain-μ-loop
 parse-chain-same-length t c = search needs
 
--- src/lib.rt:240:17
 parse-chain-returns : (t : ℕ) → parse-chain-lts.Need-returns (
   parse-juxtaposition-below t,
   parse-juxtaposition.Post,
@@ -375,7 +393,6 @@ parse-chain-returns : (t : ℕ) → parse-chain-lts.Need-returns (
 parse-chain-returns t c = let s = c .before .before .before .before .before .before .before .before .before .before .before .args .toks .now in let p = c .before .before .before .before .before .before .before .before .before .before .before .args .p in let old = c .before .before .before .before .before .before .before .before .before .before .before .args .work .now in let ready = c .before .before .before .before .before .before .before .before .before .before .before .pre .1 in
     chain-alone s p old (c .before .before .before .before .before .before .before .parse-juxtaposition .last .1 .0) _ (c .before .before .before .lead .given .0 .0) (c .before .before .before .lead .given .1) (c .before .before .before .before .before .before .before .parse-juxtaposition .ensures) (sym (c .if1 .taken) ∙ c .before .op-at .ensures)
 
--- src/lib.rt:242:17
 parse-chain-led-requires : (t : ℕ) → parse-chain-lts.Need-led-requires (
   parse-juxtaposition-below t,
   parse-juxtaposition.Post,
@@ -390,7 +407,6 @@ parse-chain-led-requires t c κs = let s = c .before .before .before .before .be
     let h : JuxSays s p old (c .before .before .before .before .before .before .before .parse-juxtaposition .last .1 .0) (On (c .before .before .before .lead .given .0 .0)) = rw (c .before .before .before .lead .given .1) at (c .before .before .before .before .before .before .before .parse-juxtaposition .ensures) in
     (omega (arith, tree-grew s p (c .before .before .before .before .before .before .before .parse-juxtaposition .last .1 .0) (c .before .before .before .lead .given .0 .0) (h .0) (h .2)), omega (arith, h .2 .within .inside, ready .short))
 
--- src/lib.rt:243:13
 parse-chain-loop-holds : (t : ℕ) → parse-chain-lts.Need-loop-holds (
   parse-juxtaposition-below t,
   parse-juxtaposition.Post,
@@ -405,7 +421,6 @@ parse-chain-loop-holds t c = let s = c .before .before .before .before .before .
     let st = chain-starts s p old (c .before .before .before .before .before .before .before .before .parse-juxtaposition .last .1 .0) _ (c .before .before .before .before .lead .given .0 .0) (c .before .before .before .before .lead .given .1) (c .before .before .before .before .before .before .before .before .parse-juxtaposition .ensures) (c .before .before .op-at .result) (c .before .before .op-at .ensures) (c .before .if1 .left) in
     (before-turn s p (c .before .before .before .before .before .before .before .before .parse-juxtaposition .last .1 .0) (c .before .before .op-at .result) _ (rw (c .led .ensures) (st .0)) (c .before .if1 .left), refl, refl)
 
--- src/lib.rt:244:23
 parse-chain-parse-juxtaposition-requires-2 :
     (t : ℕ) → parse-chain-lts.Need-parse-juxtaposition-requires-2 (
       parse-juxtaposition-below t,
@@ -423,7 +438,6 @@ parse-chain-parse-juxtaposition-requires-2 t c κs = let s = c .before .before .
     let b = turn-before s p work op q (inv .0) (c .before .loop-test .taken) in
     (omega (arith, c .before .before .before .before .before .before .before .before .before .before .before .before .before .before .before .pre .0, b .within .later), ready-on s p (length old) (length work) q (q .kids) ready kept (b .within))
 
--- src/lib.rt:245:31
 parse-chain-enum-known-why-2 : (t : ℕ) → parse-chain-lts.Need-enum-known-why-2 (
   parse-juxtaposition-below t,
   parse-juxtaposition.Post,
@@ -436,7 +450,6 @@ parse-chain-enum-known-why-2 : (t : ℕ) → parse-chain-lts.Need-enum-known-why
 ) (parse-chain-at t) parse-chain.Post parse-chain-Inv-loop parse-chain-μ-loop
 parse-chain-enum-known-why-2 t c = search needs
 
--- src/lib.rt:246:25
 parse-chain-same-length-2 : (t : ℕ) → parse-chain-lts.Need-same-length-2 (
   parse-juxtaposition-below t,
   parse-juxtaposition.Post,
@@ -449,7 +462,6 @@ parse-chain-same-length-2 : (t : ℕ) → parse-chain-lts.Need-same-length-2 (
 ) (parse-chain-at t) parse-chain.Post parse-chain-Inv-loop parse-chain-μ-loop
 parse-chain-same-length-2 t c = search needs
 
--- src/lib.rt:246:25
 parse-chain-returns-2 : (t : ℕ) → parse-chain-lts.Need-returns-2 (
   parse-juxtaposition-below t,
   parse-juxtaposition.Post,
@@ -465,7 +477,6 @@ parse-chain-returns-2 t c = let s = c .before .before .before .before .before .b
     let b = turn-before s p work op q (inv .0) (c .before .before .before .before .before .before .before .loop-test .taken) in
     chain-breaks s p work q b old (c .before .before .before .before .before .parse-juxtaposition2 .last .1 .0) _ (c .before .why2 .given .0 .0) (c .before .why2 .given .1) (c .before .before .before .before .before .parse-juxtaposition2 .ensures)
 
--- src/lib.rt:248:30
 parse-chain-enum-known-next : (t : ℕ) → parse-chain-lts.Need-enum-known-next (
   parse-juxtaposition-below t,
   parse-juxtaposition.Post,
@@ -478,7 +489,6 @@ parse-chain-enum-known-next : (t : ℕ) → parse-chain-lts.Need-enum-known-next
 ) (parse-chain-at t) parse-chain.Post parse-chain-Inv-loop parse-chain-μ-loop
 parse-chain-enum-known-next t c = search needs
 
--- src/lib.rt:249:25
 parse-chain-op-at-requires-2 : (t : ℕ) → parse-chain-lts.Need-op-at-requires-2 (
   parse-juxtaposition-below t,
   parse-juxtaposition.Post,
@@ -491,7 +501,6 @@ parse-chain-op-at-requires-2 : (t : ℕ) → parse-chain-lts.Need-op-at-requires
 ) (parse-chain-at t) parse-chain.Post parse-chain-Inv-loop parse-chain-μ-loop
 parse-chain-op-at-requires-2 t c κs = search needs
 
--- src/lib.rt:250:112
 parse-chain-add-t20 : (t : ℕ) → parse-chain-lts.Need-add-t20 (
   parse-juxtaposition-below t,
   parse-juxtaposition.Post,
@@ -507,7 +516,6 @@ parse-chain-add-t20 t c = let s = c .before .before .before .before .before .bef
     let b = turn-before s p work op q (inv .0) (c .before .before .before .before .before .before .before .before .before .loop-test .taken) in
     let w = b .within in omega (arith, w .few, w .left, ready .few)
 
--- src/lib.rt:251:25
 parse-chain-grow-requires : (t : ℕ) → parse-chain-lts.Need-grow-requires (
   parse-juxtaposition-below t,
   parse-juxtaposition.Post,
@@ -526,7 +534,6 @@ parse-chain-grow-requires t c κs = let s = c .before .before .before .before .b
     let kept2 : length (c .before .before .before .before .before .before .before .before .parse-juxtaposition2 .last .1 .0) ≡ length old = omega (arith, inv .2, c .before .before .before .before .before .before .before .before .before .before .before .before .before .before .before .before .before .before .before .before .parse-juxtaposition .kept, c .before .before .before .before .before .before .before .before .parse-juxtaposition2 .kept) in
     (go .0 .within .above, omega (arith, room .0, kept2), room .1, room .2, omega (arith, go .0 .within .inside, ready .short), kind-pos s p (c .before .before .before .before .before .before .before .before .parse-juxtaposition2 .last .1 .0) (record { at = n .at; rows = n .rows; cites = n .cites; kind = q .kind; kids = q .kids + 1 }) (go .0) (omega (arith, room .0, kept2)))
 
--- src/lib.rt:243:13
 parse-chain-loop-less : (t : ℕ) → parse-chain-lts.Need-loop-less (
   parse-juxtaposition-below t,
   parse-juxtaposition.Post,
@@ -542,7 +549,6 @@ parse-chain-loop-less t c = let s = c .before .before .before .before .before .b
     let h = rw (c .before .before .before .before .before .before .before .next .given .1) at (c .before .before .before .before .before .before .before .before .before .before .before .parse-juxtaposition2 .ensures) in let w = h .2 .within in let n = c .before .before .before .before .before .before .before .next .given .0 .0 in
     let l = grown-later (record { at = n .at; rows = n .rows; cites = n .cites; kind = q .kind; kids = q .kids + 1 }) (c .before .before .before .before .before .op-at2 .result) in rw (c .before .before .grow .ensures .0) (omega (arith, w .later, w .inside, l))
 
--- src/lib.rt:243:13
 parse-chain-loop-again : (t : ℕ) → parse-chain-lts.Need-loop-again (
   parse-juxtaposition-below t,
   parse-juxtaposition.Post,
@@ -562,7 +568,6 @@ parse-chain-loop-again t c = let s = c .before .before .before .before .before .
     let fits : n .rows < length (c .before .before .before .before .before .before .before .before .before .before .before .parse-juxtaposition2 .last .1 .0) = omega (arith, room .0, kept2) in
     (rw (c .before .before .grow .ensures .0, c .before .before .grow .ensures .1) (chain-turns s p (c .before .before .before .before .before .before .before .before .before .before .before .parse-juxtaposition2 .last .1 .0) (record { at = n .at; rows = n .rows; cites = n .cites; kind = q .kind; kids = q .kids + 1 }) (go .0) fits (c .before .before .before .before .before .op-at2 .result) (c .before .before .before .before .before .op-at2 .ensures)), rw (c .before .before .grow .ensures .1) (chain-front s p (c .before .before .before .before .before .before .before .before .before .before .before .parse-juxtaposition2 .last .1 .0) (record { at = n .at; rows = n .rows; cites = n .cites; kind = q .kind; kids = q .kids + 1 }) (go .0) fits (c .before .before .before .before .before .op-at2 .result)) ∙ go .1 ∙ inv .1, omega (arith, inv .2, c .before .before .before .before .before .before .before .before .before .before .before .parse-juxtaposition2 .kept, c .before .before .grow .kept))
 
--- src/lib.rt:231:1
 parse-chain-same-length-3 : (t : ℕ) → parse-chain-lts.Need-same-length-3 (
   parse-juxtaposition-below t,
   parse-juxtaposition.Post,
@@ -575,7 +580,6 @@ parse-chain-same-length-3 : (t : ℕ) → parse-chain-lts.Need-same-length-3 (
 ) (parse-chain-at t) parse-chain.Post parse-chain-Inv-loop parse-chain-μ-loop
 parse-chain-same-length-3 t c = search needs
 
--- src/lib.rt:231:1
 parse-chain-returns-3 : (t : ℕ) → parse-chain-lts.Need-returns-3 (
   parse-juxtaposition-below t,
   parse-juxtaposition.Post,
@@ -589,7 +593,6 @@ parse-chain-returns-3 : (t : ℕ) → parse-chain-lts.Need-returns-3 (
 parse-chain-returns-3 t c = let s = c .before .before .before .before .before .before .before .before .before .args .toks .now in let p = c .before .before .before .before .before .before .before .before .before .args .p in let old = c .before .before .before .before .before .before .before .before .before .args .work .now in let ready = c .before .before .before .before .before .before .before .before .before .pre .1 in
     chain-passes s p old (c .before .before .before .before .before .parse-juxtaposition .last .1 .0) _ (c .before .why .given .0 .0) (c .before .why .given .1) (c .before .before .before .before .before .parse-juxtaposition .ensures)
 
--- src/lib.rt:231:1
 parse-chain-same-length-4 : (t : ℕ) → parse-chain-lts.Need-same-length-4 (
   parse-juxtaposition-below t,
   parse-juxtaposition.Post,
@@ -602,7 +605,6 @@ parse-chain-same-length-4 : (t : ℕ) → parse-chain-lts.Need-same-length-4 (
 ) (parse-chain-at t) parse-chain.Post parse-chain-Inv-loop parse-chain-μ-loop
 parse-chain-same-length-4 t c = search needs
 
--- src/lib.rt:231:1
 parse-chain-returns-4 : (t : ℕ) → parse-chain-lts.Need-returns-4 (
   parse-juxtaposition-below t,
   parse-juxtaposition.Post,
@@ -625,7 +627,6 @@ parse-juxtaposition-Inv-loop toks work₀ p q₀ kids₀ work q kids =
 abbrev parse-juxtaposition-μ-loop : parse-juxtaposition-lts.MeasureT-loop
 parse-juxtaposition-μ-loop toks work₀ p q₀ kids₀ work q kids = length toks - q .at
 
--- src/lib.rt:205:11
 parse-juxtaposition-parse-atom-requires :
     (t : ℕ) → parse-juxtaposition-lts.Need-parse-atom-requires (
       parse-atom-below t,
@@ -642,7 +643,6 @@ parse-juxtaposition-parse-atom-requires :
 parse-juxtaposition-parse-atom-requires t c κs = let s = c .before .before .before .args .toks .now in let p = c .before .before .before .args .p in let old = c .before .before .before .args .work .now in let ready = c .before .before .before .pre .1 in
     (omega (arith, c .before .before .before .pre .0), ready)
 
--- src/lib.rt:206:19
 parse-juxtaposition-enum-known-why : (t : ℕ) → parse-juxtaposition-lts.Need-enum-known-why (
   parse-atom-below t,
   parse-atom.Post,
@@ -657,7 +657,6 @@ parse-juxtaposition-enum-known-why : (t : ℕ) → parse-juxtaposition-lts.Need-
     parse-juxtaposition-μ-loop
 parse-juxtaposition-enum-known-why t c = search needs
 
--- src/lib.rt:207:18
 parse-juxtaposition-enum-known-first : (t : ℕ) → parse-juxtaposition-lts.Need-enum-known-first (
   parse-atom-below t,
   parse-atom.Post,
@@ -672,7 +671,6 @@ parse-juxtaposition-enum-known-first : (t : ℕ) → parse-juxtaposition-lts.Nee
     parse-juxtaposition-μ-loop
 parse-juxtaposition-enum-known-first t c = search needs
 
--- src/lib.rt:210:13
 parse-juxtaposition-loop-holds : (t : ℕ) → parse-juxtaposition-lts.Need-loop-holds (
   parse-atom-below t,
   parse-atom.Post,
@@ -689,7 +687,6 @@ parse-juxtaposition-loop-holds t c = let s = c .before .before .before .before .
     let st = run-starts s p old (c .before .before .before .before .before .parse-atom .last .1 .0) _ (c .before .first .given .0 .0) (c .before .first .given .1) (c .before .before .before .before .before .parse-atom .ensures) in
     (st .0, refl, refl)
 
--- src/lib.rt:210:19
 parse-juxtaposition-operand-at-requires :
     (t : ℕ) → parse-juxtaposition-lts.Need-operand-at-requires (
       parse-atom-below t,
@@ -705,7 +702,6 @@ parse-juxtaposition-operand-at-requires :
     parse-juxtaposition-μ-loop
 parse-juxtaposition-operand-at-requires t c κs = search needs
 
--- src/lib.rt:211:23
 parse-juxtaposition-parse-atom-requires-2 :
     (t : ℕ) → parse-juxtaposition-lts.Need-parse-atom-requires-2 (
       parse-atom-below t,
@@ -724,7 +720,6 @@ parse-juxtaposition-parse-atom-requires-2 t c κs = let s = c .before .before .b
     let kept : length work ≡ length old = omega (arith, inv .2, c .before .before .before .before .before .before .before .before .before .parse-atom .kept) in
     (omega (arith, c .before .before .before .before .before .before .before .before .before .before .before .before .before .pre .0, inv .0 .within .later), ready-on s p (length old) (length work) q kids ready kept (inv .0 .within))
 
--- src/lib.rt:212:31
 parse-juxtaposition-enum-known-why-2 : (t : ℕ) → parse-juxtaposition-lts.Need-enum-known-why-2 (
   parse-atom-below t,
   parse-atom.Post,
@@ -739,7 +734,6 @@ parse-juxtaposition-enum-known-why-2 : (t : ℕ) → parse-juxtaposition-lts.Nee
     parse-juxtaposition-μ-loop
 parse-juxtaposition-enum-known-why-2 t c = search needs
 
--- src/lib.rt:213:25
 parse-juxtaposition-same-length : (t : ℕ) → parse-juxtaposition-lts.Need-same-length (
   parse-atom-below t,
   parse-atom.Post,
@@ -754,7 +748,6 @@ parse-juxtaposition-same-length : (t : ℕ) → parse-juxtaposition-lts.Need-sam
     parse-juxtaposition-μ-loop
 parse-juxtaposition-same-length t c = search needs
 
--- src/lib.rt:213:25
 parse-juxtaposition-returns : (t : ℕ) → parse-juxtaposition-lts.Need-returns (
   parse-atom-below t,
   parse-atom.Post,
@@ -771,7 +764,6 @@ parse-juxtaposition-returns t c = let s = c .before .before .before .before .bef
     let work = c .before .before .before .before .before .before .before .before .before .loop .work in let q = c .before .before .before .before .before .before .before .before .before .loop .q in let kids = c .before .before .before .before .before .before .before .before .before .loop .kids in let inv = c .before .before .before .before .before .before .before .before .before .loop .inv in
     run-breaks s p work q kids (inv .0) (sym (c .before .before .before .before .before .before .before .if1 .taken) ∙ c .before .before .before .before .before .before .before .before .operand-at .ensures) old (c .before .before .before .before .before .parse-atom2 .last .1 .0) _ (c .before .why2 .given .0 .0) (c .before .why2 .given .1) (c .before .before .before .before .before .parse-atom2 .ensures)
 
--- src/lib.rt:215:30
 parse-juxtaposition-enum-known-next : (t : ℕ) → parse-juxtaposition-lts.Need-enum-known-next (
   parse-atom-below t,
   parse-atom.Post,
@@ -786,7 +778,6 @@ parse-juxtaposition-enum-known-next : (t : ℕ) → parse-juxtaposition-lts.Need
     parse-juxtaposition-μ-loop
 parse-juxtaposition-enum-known-next t c = search needs
 
--- src/lib.rt:217:25
 parse-juxtaposition-add-kids : (t : ℕ) → parse-juxtaposition-lts.Need-add-kids (
   parse-atom-below t,
   parse-atom.Post,
@@ -803,7 +794,6 @@ parse-juxtaposition-add-kids t c = let s = c .before .before .before .before .be
     let work = c .before .before .before .before .before .before .before .before .before .loop .work in let q = c .before .before .before .before .before .before .before .before .before .loop .q in let kids = c .before .before .before .before .before .before .before .before .before .loop .kids in let inv = c .before .before .before .before .before .before .before .before .before .loop .inv in
     let w = inv .0 .within in omega (arith, w .few, w .left, ready .few)
 
--- src/lib.rt:210:13
 parse-juxtaposition-loop-less : (t : ℕ) → parse-juxtaposition-lts.Need-loop-less (
   parse-atom-below t,
   parse-atom.Post,
@@ -820,7 +810,6 @@ parse-juxtaposition-loop-less t c = let s = c .before .before .before .before .b
     let work = c .before .before .before .before .before .before .before .before .before .loop .work in let q = c .before .before .before .before .before .before .before .before .before .loop .q in let kids = c .before .before .before .before .before .before .before .before .before .loop .kids in let inv = c .before .before .before .before .before .before .before .before .before .loop .inv in
     let h = rw (c .before .next .given .1) at (c .before .before .before .before .before .parse-atom2 .ensures) in let w = h .2 .within in omega (arith, w .later, w .inside)
 
--- src/lib.rt:210:13
 parse-juxtaposition-loop-again : (t : ℕ) → parse-juxtaposition-lts.Need-loop-again (
   parse-atom-below t,
   parse-atom.Post,
@@ -838,7 +827,6 @@ parse-juxtaposition-loop-again t c = let s = c .before .before .before .before .
     let h = run-goes s p work q kids (inv .0) (c .before .before .before .before .before .parse-atom2 .last .1 .0) _ (c .before .next .given .0 .0) (c .before .next .given .1) (c .before .before .before .before .before .parse-atom2 .ensures) in
     (h .0, h .1 ∙ inv .1, omega (arith, inv .2, c .before .before .before .before .before .parse-atom2 .kept))
 
--- src/lib.rt:222:17
 parse-juxtaposition-same-length-2 : (t : ℕ) → parse-juxtaposition-lts.Need-same-length-2 (
   parse-atom-below t,
   parse-atom.Post,
@@ -853,7 +841,6 @@ parse-juxtaposition-same-length-2 : (t : ℕ) → parse-juxtaposition-lts.Need-s
     parse-juxtaposition-μ-loop
 parse-juxtaposition-same-length-2 t c = search needs
 
--- src/lib.rt:222:17
 parse-juxtaposition-returns-2 : (t : ℕ) → parse-juxtaposition-lts.Need-returns-2 (
   parse-atom-below t,
   parse-atom.Post,
@@ -871,7 +858,6 @@ parse-juxtaposition-returns-2 t c = let s = c .before .before .before .before .b
     let work = c .before .before .before .loop .work in let q = c .before .before .before .loop .q in let kids = c .before .before .before .loop .kids in let inv = c .before .before .before .loop .inv in
     jux-one s p work q kids (inv .0) old (sym (c .before .if1 .left) ∙ c .before .before .operand-at .ensures) (inv .1 ∙ st .1) (c .if2 .taken)
 
--- src/lib.rt:225:22
 parse-juxtaposition-add-node-requires : (t : ℕ) → parse-juxtaposition-lts.Need-add-node-requires (
   parse-atom-below t,
   parse-atom.Post,
@@ -891,7 +877,6 @@ parse-juxtaposition-add-node-requires t c κs = let s = c .before .before .befor
     let room = row-left s p (length old) (q .at) (q .rows) (q .cites) kids ready (inv .0 .within) two in
     (inv .0 .within .above, omega (arith, room .0, kept), room .1, room .2)
 
--- src/lib.rt:201:1
 parse-juxtaposition-same-length-3 : (t : ℕ) → parse-juxtaposition-lts.Need-same-length-3 (
   parse-atom-below t,
   parse-atom.Post,
@@ -906,7 +891,6 @@ parse-juxtaposition-same-length-3 : (t : ℕ) → parse-juxtaposition-lts.Need-s
     parse-juxtaposition-μ-loop
 parse-juxtaposition-same-length-3 t c = search needs
 
--- src/lib.rt:201:1
 parse-juxtaposition-returns-3 : (t : ℕ) → parse-juxtaposition-lts.Need-returns-3 (
   parse-atom-below t,
   parse-atom.Post,
@@ -922,7 +906,6 @@ parse-juxtaposition-returns-3 : (t : ℕ) → parse-juxtaposition-lts.Need-retur
 parse-juxtaposition-returns-3 t c = let s = c .before .before .before .before .before .before .before .before .before .args .toks .now in let p = c .before .before .before .before .before .before .before .before .before .args .p in let old = c .before .before .before .before .before .before .before .before .before .args .work .now in let ready = c .before .before .before .before .before .before .before .before .before .pre .1 in
     jux-passes s p old (c .before .before .before .before .before .parse-atom .last .1 .0) _ (c .before .why .given .0 .0) (c .before .why .given .1) (c .before .before .before .before .before .parse-atom .ensures)
 
--- src/lib.rt:201:1
 parse-juxtaposition-same-length-4 : (t : ℕ) → parse-juxtaposition-lts.Need-same-length-4 (
   parse-atom-below t,
   parse-atom.Post,
@@ -937,7 +920,6 @@ parse-juxtaposition-same-length-4 : (t : ℕ) → parse-juxtaposition-lts.Need-s
     parse-juxtaposition-μ-loop
 parse-juxtaposition-same-length-4 t c = search needs
 
--- src/lib.rt:201:1
 parse-juxtaposition-returns-4 : (t : ℕ) → parse-juxtaposition-lts.Need-returns-4 (
   parse-atom-below t,
   parse-atom.Post,
@@ -961,6 +943,8 @@ parse-juxtaposition-returns-4 t c = let s = c .before .before .before .before .b
 pub +parse-atom+parse-chain+parse-juxtaposition-spec : {M : Type 1} → statement M
 +parse-atom+parse-chain+parse-juxtaposition-spec =
     close μ-parse-atom μ-parse-chain μ-parse-juxtaposition (λ t. parse-atom-lts.spec (
+      past-token-reads.Asked,
+      past-token-reads.Learnt,
       parse-chain-below t,
       parse-chain.Post,
       pack-row-reads.Asked,
@@ -970,7 +954,7 @@ pub +parse-atom+parse-chain+parse-juxtaposition-spec : {M : Type 1} → statemen
     parse-atom.Post
     (parse-atom-returns t)
     (parse-atom-shared-slice-read-kind t)
-    (parse-atom-add-t15 t)
+    (parse-atom-past-token-requires t)
     (parse-atom-parse-chain-requires t)
     (parse-atom-enum-known-why t)
     (parse-atom-same-length t)
@@ -978,16 +962,16 @@ pub +parse-atom+parse-chain+parse-juxtaposition-spec : {M : Type 1} → statemen
     (parse-atom-enum-known-q t)
     (parse-atom-same-length-2 t)
     (parse-atom-returns-3 t)
-    (parse-atom-add-t19 t)
+    (parse-atom-past-token-requires-2 t)
     (parse-atom-same-length-3 t)
     (parse-atom-returns-4 t)
     (parse-atom-returns-5 t)
     (parse-atom-pack-row-requires t)
     (parse-atom-mul-work t)
     (parse-atom-slice-write-work t)
-    (parse-atom-add-t10 t)
+    (parse-atom-add-t9 t)
+    (parse-atom-add-t25 t)
     (parse-atom-add-t26 t)
-    (parse-atom-add-t27 t)
     (parse-atom-same-length-4 t)
     (parse-atom-returns-6 t))
     (λ t. parse-chain-lts.spec (

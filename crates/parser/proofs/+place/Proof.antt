@@ -1,9 +1,9 @@
-use mathlib.Core.Path.{_≡_, refl, sym, _∙_}
+use mathlib.Core.Path.{refl}
 use native.Mathlib.Omega.{arith}
-use lib.ListN.{length, getD, set, length-set}
+use lib.ListN.{getD, length-set}
 use Rattle.parser.proofs.Placing.{place-none, size-fits, children-stand, before-stand, placed-all}
 use borrow.Author.Needs.{needs}
-use Prim.Native.Nat.{ℕ, _<_, _≤_, _+_, _*_, _-_}
+use Prim.Native.Nat.{ℕ, _<_, _+_, _-_}
 use borrow.Fn.Kinds.{In}
 use borrow.Fn.PlainCycle.{Measures, is, falls, and}
 use Rattle.parser.proofs.place.Reads as place
@@ -23,7 +23,6 @@ place-at t = and 2 place-kinds.ps (is 2 place-kinds.ps μ-place t) place.Pre
 abbrev place-below : ℕ → In 2 place-kinds.ps
 place-below t = and 2 place-kinds.ps (falls 2 place-kinds.ps _<_ μ-place t) place.Pre
 
--- src/lib.rt:266:9
 place-returns : (t : ℕ) → place-lts.Need-returns (
   row-size-reads.Asked,
   row-size-reads.Learnt,
@@ -35,7 +34,6 @@ place-returns : (t : ℕ) → place-lts.Need-returns (
 place-returns t c = let work = c .before .before .before .args .work .now in let top = c .before .before .before .args .top in let m = c .before .before .before .args .count in let end = c .before .before .before .args .end in let old = c .before .before .before .args .rows .now in
     let st = c .before .before .before .pre .1 .1 in let room = c .before .before .before .pre .1 .0 in place-none work top m end old (c .if1 .taken)
 
--- src/lib.rt:268:20
 place-sub-row : (t : ℕ) → place-lts.Need-sub-row (
   row-size-reads.Asked,
   row-size-reads.Learnt,
@@ -48,7 +46,6 @@ place-sub-row t c = let work = c .before .before .before .args .work .now in let
     let st = c .before .before .before .pre .1 .1 in let room = c .before .before .before .pre .1 .0 in let row = getD work (top - 1) 0 in
     let f = size-fits work top m end st (c .if1 .left) row _ _ refl refl refl in omega (arith, f .0, f .2)
 
--- src/lib.rt:268:15
 place-mul-row : (t : ℕ) → place-lts.Need-mul-row (
   row-size-reads.Asked,
   row-size-reads.Learnt,
@@ -59,7 +56,6 @@ place-mul-row : (t : ℕ) → place-lts.Need-mul-row (
 ) (place-at t) place.Post
 place-mul-row t c = search needs
 
--- src/lib.rt:268:15
 place-shared-slice-read-row : (t : ℕ) → place-lts.Need-shared-slice-read-row (
   row-size-reads.Asked,
   row-size-reads.Learnt,
@@ -72,7 +68,6 @@ place-shared-slice-read-row t c = let work = c .before .before .before .before .
     let st = c .before .before .before .before .pre .1 .1 in let room = c .before .before .before .before .pre .1 .0 in let row = getD work (top - 1) 0 in
     let f = size-fits work top m end st (c .before .if1 .left) row _ _ refl refl refl in omega (arith, f .0, f .2, st .held .fits)
 
--- src/lib.rt:269:9
 place-row-size-requires : (t : ℕ) → place-lts.Need-row-size-requires (
   row-size-reads.Asked,
   row-size-reads.Learnt,
@@ -83,7 +78,6 @@ place-row-size-requires : (t : ℕ) → place-lts.Need-row-size-requires (
 ) (place-at t) place.Post
 place-row-size-requires t c κs = search needs
 
--- src/lib.rt:270:10
 place-sub-rows : (t : ℕ) → place-lts.Need-sub-rows (
   row-size-reads.Asked,
   row-size-reads.Learnt,
@@ -96,7 +90,6 @@ place-sub-rows t c = let work = c .before .before .before .before .before .args 
     let st = c .before .before .before .before .before .pre .1 .1 in let room = c .before .before .before .before .before .pre .1 .0 in let row = getD work (top - 1) 0 in
     let z = c .row-size .result in let f = size-fits work top m end st (c .before .before .if1 .left) row z _ refl (c .row-size .ensures) refl in omega (arith, f .1)
 
--- src/lib.rt:270:5
 place-mul-rows : (t : ℕ) → place-lts.Need-mul-rows (
   row-size-reads.Asked,
   row-size-reads.Learnt,
@@ -107,7 +100,6 @@ place-mul-rows : (t : ℕ) → place-lts.Need-mul-rows (
 ) (place-at t) place.Post
 place-mul-rows t c = search needs
 
--- src/lib.rt:270:5
 place-slice-write-rows : (t : ℕ) → place-lts.Need-slice-write-rows (
   row-size-reads.Asked,
   row-size-reads.Learnt,
@@ -120,7 +112,6 @@ place-slice-write-rows t c = let work = c .before .before .before .before .befor
     let st = c .before .before .before .before .before .pre .1 .1 in let room = c .before .before .before .before .before .pre .1 .0 in let row = getD work (top - 1) 0 in
     let z = c .row-size .result in let f = size-fits work top m end st (c .before .before .if1 .left) row z _ refl (c .row-size .ensures) refl in omega (arith, f .0, f .1, room)
 
--- src/lib.rt:271:17
 place-sub-place : (t : ℕ) → place-lts.Need-sub-place (
   row-size-reads.Asked,
   row-size-reads.Learnt,
@@ -133,7 +124,6 @@ place-sub-place t c = let work = c .before .before .before .before .before .args
     let st = c .before .before .before .before .before .pre .1 .1 in let room = c .before .before .before .before .before .pre .1 .0 in let row = getD work (top - 1) 0 in
     let z = c .row-size .result in let f = size-fits work top m end st (c .before .before .if1 .left) row z _ refl (c .row-size .ensures) refl in omega (arith, f .0, f .2)
 
--- src/lib.rt:271:26
 place-row-children-requires : (t : ℕ) → place-lts.Need-row-children-requires (
   row-size-reads.Asked,
   row-size-reads.Learnt,
@@ -144,7 +134,6 @@ place-row-children-requires : (t : ℕ) → place-lts.Need-row-children-requires
 ) (place-at t) place.Post
 place-row-children-requires t c κs = search needs
 
--- src/lib.rt:271:5
 place-place-requires : (t : ℕ) → place-lts.Need-place-requires (
   row-size-reads.Asked,
   row-size-reads.Learnt,
@@ -158,7 +147,6 @@ place-place-requires t c κs = let work = c .before .before .before .before .bef
     let z = c .before .before .row-size .result in let kids = c .before .row-children .result in let f = size-fits work top m end st (c .before .before .before .before .if1 .left) row z kids refl (c .before .before .row-size .ensures) (c .before .row-children .ensures) in
     (omega (arith, c .before .before .before .before .before .before .before .pre .0, f .0, f .2), (simp length-set room, children-stand work top m end st (c .before .before .before .before .if1 .left) row z kids refl (c .before .before .row-size .ensures) (c .before .row-children .ensures)))
 
--- src/lib.rt:272:17
 place-sub-place-2 : (t : ℕ) → place-lts.Need-sub-place-2 (
   row-size-reads.Asked,
   row-size-reads.Learnt,
@@ -172,7 +160,6 @@ place-sub-place-2 t c = let work = c .before .before .before .before .before .be
     let z = c .before .before .before .before .before .row-size .result in let kids = c .before .before .before .before .row-children .result in let f = size-fits work top m end st (c .before .before .before .before .before .before .before .if1 .left) row z kids refl (c .before .before .before .before .before .row-size .ensures) (c .before .before .before .before .row-children .ensures) in
     omega (arith, f .2)
 
--- src/lib.rt:272:29
 place-sub-place-3 : (t : ℕ) → place-lts.Need-sub-place-3 (
   row-size-reads.Asked,
   row-size-reads.Learnt,
@@ -186,7 +173,6 @@ place-sub-place-3 t c = let work = c .before .before .before .before .before .be
     let z = c .before .before .before .before .before .row-size .result in let kids = c .before .before .before .before .row-children .result in let f = size-fits work top m end st (c .before .before .before .before .before .before .before .if1 .left) row z kids refl (c .before .before .before .before .before .row-size .ensures) (c .before .before .before .before .row-children .ensures) in
     omega (arith, c .before .before .before .before .before .before .before .if1 .left)
 
--- src/lib.rt:272:46
 place-sub-place-4 : (t : ℕ) → place-lts.Need-sub-place-4 (
   row-size-reads.Asked,
   row-size-reads.Learnt,
@@ -200,7 +186,6 @@ place-sub-place-4 t c = let work = c .before .before .before .before .before .be
     let z = c .before .before .before .before .before .before .row-size .result in let kids = c .before .before .before .before .before .row-children .result in let f = size-fits work top m end st (c .before .before .before .before .before .before .before .before .if1 .left) row z kids refl (c .before .before .before .before .before .before .row-size .ensures) (c .before .before .before .before .before .row-children .ensures) in
     omega (arith, f .1)
 
--- src/lib.rt:272:5
 place-place-requires-2 : (t : ℕ) → place-lts.Need-place-requires-2 (
   row-size-reads.Asked,
   row-size-reads.Learnt,
@@ -214,7 +199,6 @@ place-place-requires-2 t c κs = let work = c .before .before .before .before .b
     let z = c .before .before .before .before .before .before .row-size .result in let kids = c .before .before .before .before .before .row-children .result in let f = size-fits work top m end st (c .before .before .before .before .before .before .before .before .if1 .left) row z kids refl (c .before .before .before .before .before .before .row-size .ensures) (c .before .before .before .before .before .row-children .ensures) in
     (omega (arith, c .before .before .before .before .before .before .before .before .before .before .before .pre .0, f .0, f .2), (omega (arith, room, c .before .before .before .place .kept, length-set old (end - z) row), before-stand work top m end st (c .before .before .before .before .before .before .before .before .if1 .left) row z kids refl (c .before .before .before .before .before .before .row-size .ensures) (c .before .before .before .before .before .row-children .ensures)))
 
--- src/lib.rt:261:1
 place-same-length : (t : ℕ) → place-lts.Need-same-length (
   row-size-reads.Asked,
   row-size-reads.Learnt,
@@ -226,7 +210,6 @@ place-same-length : (t : ℕ) → place-lts.Need-same-length (
 place-same-length t c = let work = c .before .before .before .before .before .before .before .before .before .before .before .before .before .before .args .work .now in let top = c .before .before .before .before .before .before .before .before .before .before .before .before .before .before .args .top in let end = c .before .before .before .before .before .before .before .before .before .before .before .before .before .before .args .end in let old = c .before .before .before .before .before .before .before .before .before .before .before .before .before .before .args .rows .now in
     omega (arith, c .before .before .place2 .kept, c .before .before .before .before .before .before .place .kept, length-set old (end - c .before .before .before .before .before .before .before .before .before .row-size .result) (getD work (top - 1) 0))
 
--- src/lib.rt:261:1
 place-returns-2 : (t : ℕ) → place-lts.Need-returns-2 (
   row-size-reads.Asked,
   row-size-reads.Learnt,

@@ -3,39 +3,28 @@ use lib.ListN.{set}
 use borrow.Author.Needs.{needs}
 use Rattle.parser.proofs.add_node.Statement.{statement}
 use Rattle.parser.proofs.add_node.Tie as tie
-use Rattle.parser.proofs.add_node.Reads as reads
-use Rattle.parser.proofs.add_node.Lts as lts
-use Rattle.parser.proofs.pack_row.Reads as pack-row-reads
 
--- src/lib.rt:106:42
 add-pack-row : tie.Need-add-pack-row
 add-pack-row c = search needs
 
--- src/lib.rt:106:42
 sub-pack-row : tie.Need-sub-pack-row
 sub-pack-row c = search needs
 
--- src/lib.rt:106:17
 pack-row-requires : tie.Need-pack-row-requires
 pack-row-requires c κs = search needs
 
--- src/lib.rt:106:5
 mul-work : tie.Need-mul-work
 mul-work c = search needs
 
--- src/lib.rt:106:5
 slice-write-work : tie.Need-slice-write-work
 slice-write-work c = search needs
 
--- src/lib.rt:109:15
 add-t6 : tie.Need-add-t6
 add-t6 c = search needs
 
--- src/lib.rt:100:1
 same-length : tie.Need-same-length
 same-length c = search needs
 
--- src/lib.rt:100:1
 returns : tie.Need-returns
 returns c = (refl, ap (λ v. set (c .before .before .args .work .now) (c .before .before .args .q .rows) v) (c .pack-row .ensures))
 

@@ -2,26 +2,19 @@ use borrow.Author.Tests.{eq-eqb, ne-eqb}
 use borrow.Author.Needs.{needs}
 use Rattle.parser.proofs.led.Statement.{statement}
 use Rattle.parser.proofs.led.Tie as tie
-use Rattle.parser.proofs.led.Reads as reads
-use Rattle.parser.proofs.led.Lts as lts
 
--- src/lib.rt:126:26
 add-t4 : tie.Need-add-t4
 add-t4 c = search needs
 
--- src/lib.rt:126:45
 sub-t5 : tie.Need-sub-t5
 sub-t5 c = search needs
 
--- src/lib.rt:126:9
 returns : tie.Need-returns
 returns c = rw (eq-eqb (c .before .before .before .before .args .lead .kind) (c .before .before .before .before .args .op) (c .before .before .if1 .taken))
 
--- src/lib.rt:128:15
 add-t6 : tie.Need-add-t6
 add-t6 c = search needs
 
--- src/lib.rt:121:1
 returns-2 : tie.Need-returns-2
 returns-2 c = rw (ne-eqb (c .before .before .before .args .lead .kind) (c .before .before .before .args .op) (c .before .if1 .left))
 

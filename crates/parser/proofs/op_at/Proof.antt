@@ -1,28 +1,20 @@
-use native.Mathlib.Omega.{arith}
 use Rattle.parser.proofs.Ahead.{op-below, op-above, op-between, op-end}
 use borrow.Author.Needs.{needs}
 use Rattle.parser.proofs.op_at.Statement.{statement}
 use Rattle.parser.proofs.op_at.Tie as tie
-use Rattle.parser.proofs.op_at.Reads as reads
-use Rattle.parser.proofs.op_at.Lts as lts
 
--- src/lib.rt:48:20
 shared-slice-read-kind : tie.Need-shared-slice-read-kind
 shared-slice-read-kind c = search needs
 
--- src/lib.rt:50:13
 returns : tie.Need-returns
 returns c = op-below (c .before .before .before .args .toks .now) (c .before .before .before .args .at) (c .before .before .if1 .taken) (c .if2 .taken)
 
--- src/lib.rt:53:13
 returns-2 : tie.Need-returns-2
 returns-2 c = op-above (c .before .before .before .before .args .toks .now) (c .before .before .before .before .args .at) (c .before .before .before .if1 .taken) (c .if3 .taken)
 
--- src/lib.rt:55:9
 returns-3 : tie.Need-returns-3
 returns-3 c = op-between (c .before .before .before .before .args .toks .now) (c .before .before .before .before .args .at) (c .before .before .before .if1 .taken) (c .before .if2 .left) (c .if3 .left)
 
--- src/lib.rt:44:1
 returns-4 : tie.Need-returns-4
 returns-4 c = op-end (c .before .args .toks .now) (c .before .args .at) (c .if1 .left)
 

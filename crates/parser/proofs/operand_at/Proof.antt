@@ -2,22 +2,16 @@ use Rattle.parser.proofs.Ahead.{operand-cite, operand-else, operand-end
 use borrow.Author.Needs.{needs}
 use Rattle.parser.proofs.operand_at.Statement.{statement}
 use Rattle.parser.proofs.operand_at.Tie as tie
-use Rattle.parser.proofs.operand_at.Reads as reads
-use Rattle.parser.proofs.operand_at.Lts as lts
 
--- src/lib.rt:65:20
 shared-slice-read-kind : tie.Need-shared-slice-read-kind
 shared-slice-read-kind c = search needs
 
--- src/lib.rt:67:13
 returns : tie.Need-returns
 returns c = operand-cite (c .before .before .before .args .toks .now) (c .before .before .before .args .at) (c .before .before .if1 .taken) (c .if2 .taken)
 
--- src/lib.rt:69:9
 returns-2 : tie.Need-returns-2
 returns-2 c = operand-else (c .before .before .before .args .toks .now) (c .before .before .before .args .at) (c .before .before .if1 .taken) (c .if2 .left)
 
--- src/lib.rt:61:1
 returns-3 : tie.Need-returns-3
 returns-3 c = operand-end (c .before .args .toks .now) (c .before .args .at) (c .if1 .left)
 

@@ -3,57 +3,42 @@ use Rattle.parser.proofs.Parsing.{ready-first, refused-chain, refused-r
 use borrow.Author.Needs.{needs}
 use Rattle.parser.proofs.parse_tokens.Statement.{statement}
 use Rattle.parser.proofs.parse_tokens.Tie as tie
-use Rattle.parser.proofs.parse_tokens.Reads as reads
-use Rattle.parser.proofs.parse_tokens.Lts as lts
-use Rattle.parser.proofs.parse_chain.Reads as parse-chain-reads
-use Rattle.parser.proofs.place.Reads as place-reads
 
--- src/lib.rt:281:11
 parse-chain-requires : tie.Need-parse-chain-requires
 parse-chain-requires c κs = let s = c .before .before .before .before .args .toks .now in let pre = c .before .before .before .before .pre in let old = c .before .before .before .before .args .work .now in
     ready-first s (length old) (pre .0) (pre .1) (pre .2)
 
--- src/lib.rt:282:19
 enum-known-why : tie.Need-enum-known-why
 enum-known-why c = search needs
 
--- src/lib.rt:283:18
 enum-known-q : tie.Need-enum-known-q
 enum-known-q c = search needs
 
--- src/lib.rt:285:17
 same-length : tie.Need-same-length
 same-length c = search needs
 
--- src/lib.rt:285:17
 returns : tie.Need-returns
 returns c = let s = c .before .before .before .before .before .before .before .before .before .before .before .before .args .toks .now in let pre = c .before .before .before .before .before .before .before .before .before .before .before .before .pre in let old = c .before .before .before .before .before .before .before .before .before .before .before .before .args .work .now in
     refused-rest s old (c .before .before .before .before .before .before .before .parse-chain .last .1 .0) _ (c .before .before .before .q .given .0 .0) (c .before .before .before .q .given .1) (c .before .before .before .before .before .before .before .parse-chain .ensures) _ (c .if1 .taken)
 
--- src/lib.rt:287:13
 place-requires : tie.Need-place-requires
 place-requires c κs = let s = c .before .before .before .before .before .before .before .before .before .before .before .before .before .before .args .toks .now in let pre = c .before .before .before .before .before .before .before .before .before .before .before .before .before .before .pre in let old = c .before .before .before .before .before .before .before .before .before .before .before .before .before .before .args .work .now in
     let rows = c .before .before .before .before .before .before .before .before .before .before .before .before .before .before .args .rows .now in
     (rows-fit s old (c .before .before .before .before .before .before .before .before .before .parse-chain .last .1 .0) _ (c .before .before .before .before .before .q .given .0 .0) (c .before .before .before .before .before .q .given .1) (c .before .before .before .before .before .before .before .before .before .parse-chain .ensures) (length rows) (pre .1) (pre .3), stands s old (c .before .before .before .before .before .before .before .before .before .parse-chain .last .1 .0) _ (c .before .before .before .before .before .q .given .0 .0) (c .before .before .before .before .before .q .given .1) (c .before .before .before .before .before .before .before .before .before .parse-chain .ensures) (pre .1))
 
--- src/lib.rt:276:1
 same-length-2 : tie.Need-same-length-2
 same-length-2 c = search needs
 
--- src/lib.rt:276:1
 returns-2 : tie.Need-returns-2
 returns-2 c = let s = c .before .before .before .before .before .before .before .before .before .before .args .toks .now in let pre = c .before .before .before .before .before .before .before .before .before .before .pre in let old = c .before .before .before .before .before .before .before .before .before .before .args .work .now in
     refused-chain s old (c .before .before .before .before .before .parse-chain .last .1 .0) _ _ (c .before .why .given .0 .0) (c .before .why .given .1) (c .before .before .before .before .before .parse-chain .ensures)
 
--- src/lib.rt:276:1
 same-length-3 : tie.Need-same-length-3
 same-length-3 c = search needs
 
--- src/lib.rt:276:1
 same-length-4 : tie.Need-same-length-4
 same-length-4 c = search needs
 
--- src/lib.rt:276:1
 returns-3 : tie.Need-returns-3
 returns-3 c = let s = c .before .before .before .before .before .before .before .before .before .before .before .before .before .before .before .before .before .args .toks .now in let pre = c .before .before .before .before .before .before .before .before .before .before .before .before .before .before .before .before .before .pre in let old = c .before .before .before .before .before .before .before .before .before .before .before .before .before .before .before .before .before .args .work .now in
     read-all s old (c .before .before .before .before .before .before .before .before .before .before .before .before .parse-chain .last .1 .0) _ (c .before .before .before .before .before .before .before .before .q .given .0 .0) (c .before .before .before .before .before .before .before .before .q .given .1) (c .before .before .before .before .before .before .before .before .before .before .before .before .parse-chain .ensures) _ _ (pre .1) (c .before .before .before .before .before .if1 .left) (c .before .before .place .ensures)

@@ -1,27 +1,19 @@
-use mathlib.Core.Path.{_≡_, sym, _∙_}
+use mathlib.Core.Path.{sym, _∙_}
 use borrow.Author.Tests.{eq-eqb, ne-eqb}
 use Prim.Native.Nat.{_/_}
 use borrow.Author.Needs.{needs}
 use Rattle.parser.proofs.row_children.Statement.{statement}
 use Rattle.parser.proofs.row_children.Tie as tie
-use Rattle.parser.proofs.row_children.Reads as reads
-use Rattle.parser.proofs.row_children.Lts as lts
-use Rattle.parser.proofs.row_kind.Reads as row-kind-reads
-use Rattle.parser.proofs.row_number.Reads as row-number-reads
 
--- src/lib.rt:103:8
 row-kind-requires : tie.Need-row-kind-requires
 row-kind-requires c κs = search needs
 
--- src/lib.rt:104:9
 returns : tie.Need-returns
 returns c = rw (eq-eqb (c .before .before .args .row / 4294967296) 0 (sym (c .before .row-kind .ensures) ∙ c .if1 .taken))
 
--- src/lib.rt:106:5
 row-number-requires : tie.Need-row-number-requires
 row-number-requires c κs = search needs
 
--- src/lib.rt:100:1
 returns-2 : tie.Need-returns-2
 returns-2 c = rw (ne-eqb (c .before .before .before .args .row / 4294967296) 0 (λ z. c .before .if1 .left (c .before .before .row-kind .ensures ∙ z))) (c .row-number .ensures)
 
