@@ -69,3 +69,12 @@ text-next text base out at i h l k =
 -- after the last
 pub text-done : (text base out : List ℕ) (at i : ℕ) → length text ≤ i → Appended (take i text) at base out (at + i) → Appended text at base out (at + i)
 text-done text base out at i h k = same (take-all i text h) k
+
+-- the length of two bytes
+pub two-size : (v : ℕ) → length (twoBytes v) ≡ 2
+unfolding twoBytes
+two-size v = refl
+
+-- where two bytes end
+pub ends-two : (v : ℕ) {at q : ℕ} {old new : List ℕ} → Appended (twoBytes v) at old new q → q ≡ at + 2
+ends-two v {at} h = h .ends ∙ ap (λ (x : ℕ). at + x) (two-size v)

@@ -7,7 +7,7 @@ use native.Mathlib.Numerals.{add-one}
 use native.Mathlib.Omega.{arith}
 use lib.ListN.{length, getD, drop, length-append, drop-of-length-le}
 use lib.Seq.{drop-cons}
-use Rattle.refusal.specs.Result.{Result, ok, refused, refuse, map-ok, then}
+use Rattle.refusal.specs.Result.{Result, ok, refuse, map-ok, then}
 use Rattle.refusal.specs.declared.Refusal.the-variants.{NotATree, NoRoom}
 use Rattle.citation.specs.declared.ConditionKind.{ConditionKind}
 use Rattle.citation.specs.Kinds.{kindOf}

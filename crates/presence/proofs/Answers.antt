@@ -1,7 +1,7 @@
 -- Answer bytes as an oracle, and what `eval` answers. Assumes nothing.
 use mathlib.Core.Path.{_≡_, refl, sym, ap, _∙_}
 use mathlib.Core.List.{List, [], _∷_}
-use mathlib.Core.Bool.{Bool, true, false, _&&_}
+use mathlib.Core.Bool.{true, false}
 use Prim.Native.Nat.{ℕ, zero, suc, _≤_, _<_}
 use native.Mathlib.Omega.{arith}
 use lib.Dec.{eqb, leb}
@@ -9,12 +9,11 @@ use lib.ListN.{length, getD}
 use borrow.Author.Tests.{ne-eqb, eq-eqb, eqb-true}
 use Rattle.laws.specs.Tests.{and-both}
 use Rattle.text.specs.Bytes.{all}
-use Rattle.refusal.specs.Result.{Result, ok, refuse, unless, then}
+use Rattle.refusal.specs.Result.{refuse, then}
 use Rattle.refusal.specs.declared.Refusal.the-variants.{FailedAnswer, NotATree, WrongAnswers}
-use Rattle.citation.specs.declared.Truth.{Truth}
 use Rattle.grammar.specs.Expr.{count}
 use Rattle.grammar.specs.Sizes.{few-nodes}
-use Rattle.grammar.specs.Bytes.{nodes, cites, isTree, treeAt, treeOf}
+use Rattle.grammar.specs.Bytes.{nodes, cites, isTree, treeAt}
 use Rattle.tree.specs.Walk.{firstAt}
 use Rattle.tree.proofs.Walks.{root, no-tree}
 use Rattle.semantics.specs.Presence.{failed, presence, answered, oracleOf, answersFit}

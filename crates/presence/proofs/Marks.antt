@@ -1,9 +1,9 @@
 -- What marks say of operands. Assumes nothing.
-use mathlib.Core.Path.{_≡_, refl, sym, ap, _∙_}
+use mathlib.Core.Path.{_≡_, refl, sym}
 use mathlib.Core.List.{List, [], _∷_, _++_}
-use mathlib.Core.Bool.{Bool, true, false, cond, not, _&&_, _||_, false≢true}
+use mathlib.Core.Bool.{Bool, true, false, not, _&&_, _||_, false≢true, and-true, or-false, and-assoc, or-assoc}
 use Prim.Native.Nat.{ℕ}
-use lib.Dec.{eqb, ltb}
+use lib.Dec.{eqb}
 use Rattle.laws.specs.Tests.{and-both}
 use Rattle.citation.specs.Kinds.{kindOf}
 use Rattle.citation.specs.declared.ConditionKind.{ConditionKind}
@@ -11,23 +11,15 @@ use Rattle.citation.specs.declared.ConditionKind.the-variants.{Voraussetzung, H
 use Rattle.semantics.specs.Presence.{isHinweis, isGate, onlyHinweise, gates}
 use Rattle.presence.specs.Marks.{markNumber, markOfKind, markOf, larger}
 
-or-assoc : (a b c : Bool) → a || (b || c) ≡ (a || b) || c
-or-assoc true b c = refl
-or-assoc false b c = refl
-
-and-assoc : (a b c : Bool) → a && (b && c) ≡ (a && b) && c
-and-assoc true b c = refl
-and-assoc false b c = refl
-
 gates-append : (a b : List (List ℕ)) → gates (a ++ b) ≡ gates a || gates b
 unfolding gates
 gates-append [] b = refl
-gates-append (t ∷ a) b = rw (gates-append a b) (or-assoc (isGate (kindOf t)) (gates a) (gates b))
+gates-append (t ∷ a) b = rw (gates-append a b) (sym (or-assoc (isGate (kindOf t)) (gates a) (gates b)))
 
 only-append : (a b : List (List ℕ)) → onlyHinweise (a ++ b) ≡ onlyHinweise a && onlyHinweise b
 unfolding onlyHinweise
 only-append [] b = refl
-only-append (t ∷ a) b = rw (only-append a b) (and-assoc (isHinweis (kindOf t)) (onlyHinweise a) (onlyHinweise b))
+only-append (t ∷ a) b = rw (only-append a b) (sym (and-assoc (isHinweis (kindOf t)) (onlyHinweise a) (onlyHinweise b)))
 
 larger-both : (g o h p : Bool) → larger (markNumber g o) (markNumber h p) ≡ markNumber (g || h) (o && p)
 unfolding larger
@@ -50,14 +42,6 @@ mark-append a b = rw (gates-append a b, only-append a b) (larger-both (gates a) 
 pub mark-none : markOf [] ≡ 0
 unfolding markOf gates onlyHinweise
 mark-none = refl
-
-or-false : (a : Bool) → a || false ≡ a
-or-false true = refl
-or-false false = refl
-
-and-true : (a : Bool) → a && true ≡ a
-and-true true = refl
-and-true false = refl
 
 -- the mark of one citation
 pub mark-one : (t : List ℕ) → markOf (t ∷ []) ≡ markOfKind (kindOf t)

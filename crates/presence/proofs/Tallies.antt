@@ -1,15 +1,13 @@
 -- A tally decides what the rules decide. Assumes nothing.
 use mathlib.Core.Path.{_≡_, refl, sym, ap, _∙_}
 use mathlib.Core.List.{List, [], _∷_}
-use mathlib.Core.Bool.{Bool, true, false, cond, _&&_, _||_, false≢true}
+use mathlib.Core.Bool.{Bool, true, false, _&&_, _||_, false≢true, or-true, or-false}
 use Prim.Native.Nat.{ℕ, _+_}
-use native.Mathlib.Omega.{arith}
-use lib.Dec.{eqb, ltb}
 use Rattle.refusal.specs.Result.{Result, ok, refused, refuse, map-ok}
 use Rattle.refusal.specs.declared.Refusal.the-variants.{ChoiceOverNeutral}
 use Rattle.citation.specs.declared.Truth.{Truth}
 use Rattle.citation.specs.declared.Truth.the-variants.{False, Unknown, True, Neutral}
-use Rattle.grammar.specs.Expr.{Op, And, Or, Xor, Expr, Exprs, cite, Then, join, none, _◂_, count}
+use Rattle.grammar.specs.Expr.{And, Or, Xor, Expr, Exprs, cite, Then, join, none, _◂_, count}
 use Rattle.grammar.specs.Rows.{opKind, children}
 use Rattle.tree.specs.Walk.{nodeKind}
 use Rattle.semantics.specs.Rules.{isFalse, isUnknown, isTrue, any, andRule, orRule, twoTrue, xorRule}
@@ -18,14 +16,6 @@ use Rattle.semantics.specs.Sentences.{or-mixes, xor-mixes, values-dropped, valu
 use Rattle.presence.specs.Marks.{choosing}
 use Rattle.presence.specs.declared.Tally.{Tally}
 use Rattle.presence.specs.Tallies.{noTally, added, anded, ored, xored, ruled, tallied, finished}
-
-or-true : (a : Bool) → a || true ≡ true
-or-true true = refl
-or-true false = refl
-
-or-false : (a : Bool) → a || false ≡ a
-or-false true = refl
-or-false false = refl
 
 -- what a tally holds after more values
 record Holds (t r : Tally) (vs : List Truth) : Type 0 where

@@ -1,35 +1,29 @@
 -- The loops over a node's operands: marking, mixing, evaluating. Assumes nothing.
 use mathlib.Core.Path.{_≡_, refl, sym, ap, _∙_, subst}
-use mathlib.Core.List.{List, [], _∷_, _++_, append-assoc, append-nil}
-use mathlib.Core.Bool.{Bool, true, false, not, _&&_, _||_}
+use mathlib.Core.List.{List, [], _++_, append-assoc, append-nil}
+use mathlib.Core.Bool.{Bool, true, false, not, _&&_, _||_, or-false, or-assoc}
 use Prim.Native.Nat.{ℕ, zero, suc, _+_, _-_, _≤_, _<_}
 use native.Mathlib.Omega.{arith}
-use lib.Dec.{eqb, ltb}
-use lib.ListN.{length, getD, set, length-append, length-set}
+use lib.Dec.{eqb}
+use lib.ListN.{length, getD, set, length-set}
 use lib.Seq.{getD-set-same, getD-set-other}
 use borrow.Author.Tests.{eqb-true, eqb-false}
-use Rattle.refusal.specs.Result.{Result, ok, refused, refuse}
+use Rattle.refusal.specs.Result.{ok, refused, refuse}
 use Rattle.refusal.specs.declared.Refusal.the-variants.{ChoiceOverNeutral}
 use Rattle.citation.specs.declared.Truth.{Truth}
 use Rattle.citation.specs.Kinds.{kindOf}
-use Rattle.grammar.specs.Expr.{Expr, Exprs, cite, Then, join, none, more, _◂_, _⧺_, citations, citationsOf, count, citations-append}
-use Rattle.grammar.specs.Rows.{many, span, firsts, children, firsts-all}
+use Rattle.grammar.specs.Expr.{Expr, Exprs, cite, Then, join, none, more, _◂_, citations, citationsOf, count}
+use Rattle.grammar.specs.Rows.{span, firsts, children}
 use Rattle.grammar.specs.Bytes.{nodes, cites, isTree, forestAt, treeAt}
 use Rattle.tree.specs.Walk.{nodeKind, numberAt, firstAt, textAt}
-use Rattle.tree.proofs.Spots.{Spot, spot, rowNumber}
-use Rattle.tree.proofs.Walks.{Walk, Next, Leaf, leaf, walk-begins, walk-next}
+use Rattle.tree.proofs.Spots.{spot}
+use Rattle.tree.proofs.Walks.{Walk, leaf, children-at, first-below, walk-begins, walk-next}
 use Rattle.semantics.specs.Presence.{dropped, gates, someGate, someFree, mixes, presence, values, oracleOf}
 use Rattle.presence.specs.Marks.{markOfKind, markOf, larger, choosing, Marked}
 use Rattle.presence.specs.declared.Tally.{Tally}
 use Rattle.presence.specs.Tallies.{noTally, added, ruled, finished}
 use Rattle.presence.proofs.Marks.{mark-append, mark-none, mark-one, mark-drop, mark-gate, mark-free}
 use Rattle.presence.proofs.Tallies.{node-begins, node-mixes, node-ends, node-drops, node-refused, node-adds}
-
-number-inner : (n : ℕ) (e : Expr) → (nodeKind e ≡ 0 → ⊥) → rowNumber n e ≡ many (children e)
-unfolding nodeKind children
-number-inner n (cite t) h = absurd (h refl)
-number-inner n (Then es) h = refl
-number-inner n (join o es) h = refl
 
 cites-inner : (e : Expr) → (nodeKind e ≡ 0 → ⊥) → citations e ≡ citationsOf (children e)
 unfolding nodeKind children citations
@@ -47,25 +41,6 @@ firsts-end zero es h = refl
 firsts-end (suc left) es h = absurd (omega arith)
 
 module _ (b : List ℕ) (tree : isTree b ≡ true) where
-  -- the operands of the node at a row, from the next row on
-  kids : (row : ℕ) → row < nodes b → (nodeKind (treeAt b row) ≡ 0 → ⊥) → children (treeAt b row) ≡ firsts (numberAt b row) (forestAt b (row + 1))
-  kids row l k =
-      let s = spot b tree row l in
-      let no : nodeKind (s .e) ≡ 0 → ⊥ = λ q. k (ap nodeKind (s .tree) ∙ q) in
-      let num : numberAt b row ≡ many (children (s .e)) = s .number ∙ number-inner (s .n) (s .e) no in
-      let all : firsts (numberAt b row) (forestAt b (row + 1)) ≡ children (s .e) = rw (s .below, num) (firsts-all (children (s .e)) (s .st)) in
-      ap children (s .tree) ∙ sym all
-
-  -- the first operand's first citation is the node's
-  first-child : (row : ℕ) → row < nodes b → (nodeKind (treeAt b row) ≡ 0 → ⊥) → firstAt b row ≡ firstAt b (row + 1)
-  unfolding citationsOf
-  first-child row l k =
-      let s = spot b tree row l in
-      let no : nodeKind (s .e) ≡ 0 → ⊥ = λ q. k (ap nodeKind (s .tree) ∙ q) in
-      let cited : citationsOf (s .e ◂ s .st) ≡ citationsOf (children (s .e) ⧺ s .st) =
-      ap (λ x. x ++ citationsOf (s .st)) (cites-inner (s .e) no) ∙ sym (citations-append (children (s .e)) (s .st)) in
-      first-of b row (s .e ◂ s .st) (s .forest) ∙ ap (λ x. cites b - length x) cited ∙ sym (first-of b (row + 1) (children (s .e) ⧺ s .st) (s .below))
-
   -- the next operand's first citation
   first-next : (i : ℕ) → i < nodes b → firstAt b i + count (treeAt b i) ≡ firstAt b (i + span (treeAt b i))
   first-next i l =
@@ -87,15 +62,17 @@ pub record Marking (b : List ℕ) (row left child mark : ℕ) : Type 0 where
   pub after : row < child
 
 module _ (b : List ℕ) (tree : isTree b ≡ true) where
+  -- before the first operand
   pub marking-begins : (row n : ℕ) → row < nodes b → (nodeKind (treeAt b row) ≡ 0 → ⊥) → n ≡ numberAt b row → Marking b row n (row + 1) 0
   marking-begins row n l k e = subst (λ (x : ℕ). Marking b row x (row + 1) 0) (sym e) record {
     done = [];
-    whole = cites-inner (treeAt b row) k ∙ ap citationsOf (kids b tree row l k);
+    whole = cites-inner (treeAt b row) k ∙ ap citationsOf (children-at b tree row l k .0);
     says = sym mark-none;
     walk = walk-begins b tree row l k;
     after = omega arith;
   }
 
+  -- one operand more
   pub marking-turns : (marks : List ℕ) (row left child mark : ℕ) → Marked b (row + 1) marks → Marking b row left child mark → 0 < left
       → (m z : ℕ) → m ≡ larger mark (getD marks child 0) → z ≡ span (treeAt b child) → Marking b row (left - 1) (child + z) m
   unfolding citationsOf
@@ -110,6 +87,7 @@ module _ (b : List ℕ) (tree : isTree b ≡ true) where
         after = omega (arith, s .after);
       }
 
+-- after the last operand
 pub marking-ends : (b : List ℕ) (row left child mark : ℕ) → Marking b row left child mark → left ≤ 0 → mark ≡ markOf (citations (treeAt b row))
 unfolding citationsOf
 marking-ends b row left child mark s h =
@@ -149,14 +127,6 @@ pub record Mixing (b : List ℕ) (row left child : ℕ) (gate free : Bool) : Typ
   pub walk : Walk b row left child
   pub after : row < child
 
-or-assoc : (a b c : Bool) → a || (b || c) ≡ (a || b) || c
-or-assoc true b c = refl
-or-assoc false b c = refl
-
-or-false : (a : Bool) → a || false ≡ a
-or-false true = refl
-or-false false = refl
-
 gate-more : (e : Expr) (es : Exprs) (m : ℕ) → m ≡ markOf (citations e) → someGate (e ◂ es) ≡ eqb m 2 || someGate es
 unfolding someGate
 gate-more e es m h = rw (h, mark-gate (citations e))
@@ -166,14 +136,16 @@ unfolding someFree
 free-more e es m h = rw (h, mark-free (citations e))
 
 module _ (b : List ℕ) (tree : isTree b ≡ true) where
+  -- before the first operand
   pub mixing-begins : (row n : ℕ) → row < nodes b → (nodeKind (treeAt b row) ≡ 0 → ⊥) → n ≡ numberAt b row → Mixing b row n (row + 1) false false
   mixing-begins row n l k e = subst (λ (x : ℕ). Mixing b row x (row + 1) false false) (sym e) record {
-    gating = ap someGate (kids b tree row l k);
-    freeing = ap someFree (kids b tree row l k);
+    gating = ap someGate (children-at b tree row l k .0);
+    freeing = ap someFree (children-at b tree row l k .0);
     walk = walk-begins b tree row l k;
     after = omega arith;
   }
 
+  -- one operand more
   pub mixing-turns : (marks : List ℕ) (row left child : ℕ) (gate free : Bool) → Marked b 0 marks → Mixing b row left child gate free → 0 < left
       → (g f : Bool) (z : ℕ) → g ≡ gate || eqb (getD marks child 0) 2 → f ≡ free || eqb (getD marks child 0) 1 → z ≡ span (treeAt b child)
       → Mixing b row (left - 1) (child + z) g f
@@ -183,8 +155,8 @@ module _ (b : List ℕ) (tree : isTree b ≡ true) where
       let rest = firsts (left - 1) (forestAt b (child + span (treeAt b child))) in
       let here : m ≡ markOf (citations (treeAt b child)) = k .says child (omega arith) (n .inside) in
       subst (λ (x : ℕ). Mixing b row (left - 1) (child + x) g f) (sym ez) record {
-        gating = s .gating ∙ ap (λ x. gate || someGate x) (n .splits) ∙ ap (λ x. gate || x) (gate-more (treeAt b child) rest m here) ∙ or-assoc gate (eqb m 2) (someGate rest) ∙ ap (λ x. x || someGate rest) (sym eg);
-        freeing = s .freeing ∙ ap (λ x. free || someFree x) (n .splits) ∙ ap (λ x. free || x) (free-more (treeAt b child) rest m here) ∙ or-assoc free (eqb m 1) (someFree rest) ∙ ap (λ x. x || someFree rest) (sym ef);
+        gating = s .gating ∙ ap (λ x. gate || someGate x) (n .splits) ∙ ap (λ x. gate || x) (gate-more (treeAt b child) rest m here) ∙ sym (or-assoc gate (eqb m 2) (someGate rest)) ∙ ap (λ x. x || someGate rest) (sym eg);
+        freeing = s .freeing ∙ ap (λ x. free || someFree x) (n .splits) ∙ ap (λ x. free || x) (free-more (treeAt b child) rest m here) ∙ sym (or-assoc free (eqb m 1) (someFree rest)) ∙ ap (λ x. x || someFree rest) (sym ef);
         walk = n .walk;
         after = omega (arith, s .after);
       }
@@ -213,6 +185,7 @@ pub record Evaluating (b answers : List ℕ) (kind row left child : ℕ) (tally 
   pub after : row < child
 
 module _ (b answers : List ℕ) (tree : isTree b ≡ true) where
+  -- before the first operand of a node that does not mix
   pub evaluating-begins : (row kind n : ℕ) → row < nodes b → kind ≡ nodeKind (treeAt b row) → (kind ≡ 0 → ⊥) → n ≡ numberAt b row
       → (choosing kind && mixes (children (treeAt b row))) ≡ false → (t : Tally) → t ≡ noTally → Evaluating b answers kind row n (row + 1) t
   evaluating-begins row kind n l ek k0 en h t et =
@@ -224,8 +197,8 @@ module _ (b answers : List ℕ) (tree : isTree b ≡ true) where
             node-begins o (firstAt b row) e k (ap (λ (x : ℕ). choosing x && mixes (children e)) (sym ek) ∙ h)
             ∙ ap (λ (x : ℕ). finished x noTally (values o (choosing x) (firstAt b row) (children e))) (sym ek)
             ∙ ap (λ x. finished kind x (values o (choosing kind) (firstAt b row) (children e))) (sym et)
-            ∙ ap (λ (x : ℕ). finished kind t (values o (choosing kind) x (children e))) (first-child b tree row l k)
-            ∙ ap (λ x. finished kind t (values o (choosing kind) (firstAt b (row + 1)) x)) (kids b tree row l k)
+            ∙ ap (λ (x : ℕ). finished kind t (values o (choosing kind) x (children e))) (sym (first-below b tree row l k))
+            ∙ ap (λ x. finished kind t (values o (choosing kind) (firstAt b (row + 1)) x)) (children-at b tree row l k .0)
             ∙ ap (λ (x : ℕ). finished kind t (values o (choosing kind) (firstAt b (row + 1)) (firsts x (forestAt b (row + 1))))) (sym en);
         walk = subst (λ (x : ℕ). Walk b row x (row + 1)) (sym en) (walk-begins b tree row l k);
         after = omega arith;
@@ -254,26 +227,30 @@ module _ (b answers : List ℕ) (tree : isTree b ≡ true) where
           after = omega (arith, s .after);
         }
 
-    -- the operand is dropped, by its mark
+    -- what the mark says of the operand
     by-mark : (marks : List ℕ) → Marked b 0 marks → (x : Bool) → (choosing kind && eqb (getD marks child 0) 0) ≡ x → (choosing kind && dropped (treeAt b child)) ≡ x
     by-mark marks k x e =
         ap (λ y. choosing kind && y) (sym (ap (λ (y : ℕ). eqb y 0) (k .says child (omega arith) (walk-next b tree row left child (s .walk) h .inside)) ∙ mark-drop (citations (treeAt b child)))) ∙ e
 
+    -- the operand is passed over
     pub evaluating-drops : (marks : List ℕ) (z : ℕ) → Marked b 0 marks → (choosing kind && eqb (getD marks child 0) 0) ≡ true → z ≡ span (treeAt b child)
         → Evaluating b answers kind row (left - 1) (child + z) t
     evaluating-drops marks z k e ez = onward t z ez (cut ∙ node-drops (oracleOf answers) kind t (choosing kind) (firstAt b child) (treeAt b child) _ (by-mark marks k true e))
 
     module _ (marks : List ℕ) (k : Marked b 0 marks) (e : (choosing kind && eqb (getD marks child 0) 0) ≡ false) where
+      -- the operand has a value
       pub evaluating-adds : (z : ℕ) (v : Truth) (u : Tally) → z ≡ span (treeAt b child) → presence (oracleOf answers) (firstAt b child) (treeAt b child) ≡ ok v → u ≡ added t v
           → Evaluating b answers kind row (left - 1) (child + z) u
       evaluating-adds z v u ez p eu =
           subst (λ x. Evaluating b answers kind row (left - 1) (child + z) x) (sym eu)
           (onward (added t v) z ez (cut ∙ node-adds (oracleOf answers) kind t (choosing kind) (firstAt b child) (treeAt b child) _ v (by-mark marks k false e) p))
 
+      -- the operand is turned back
       pub evaluating-stops : (why : ℕ) → presence (oracleOf answers) (firstAt b child) (treeAt b child) ≡ refused why
           → refused why ≡ presence (oracleOf answers) (firstAt b row) (treeAt b row)
       evaluating-stops why p = sym (cut ∙ node-refused (oracleOf answers) kind t (choosing kind) (firstAt b child) (treeAt b child) _ why (by-mark marks k false e) p)
 
+-- after the last operand
 pub evaluating-ends : (b answers : List ℕ) (kind row left child : ℕ) (t : Tally) → Evaluating b answers kind row left child t → left ≤ 0
     → ok (ruled kind t) ≡ presence (oracleOf answers) (firstAt b row) (treeAt b row)
 evaluating-ends b answers kind row left child t s h =

@@ -31,6 +31,16 @@ const NODE_LIMIT: usize = 511;
 // The answer byte of a citation whose evaluation failed.
 const FAILED: u8 = 4;
 
+// The kind of an Or's row; a Xor's is the next, and all others are smaller.
+const OR: usize = 3;
+
+// The marks of rows: an operand that a choice drops, one that it keeps, and one that gates.
+const DROPPED: u8 = 0;
+
+const KEPT: u8 = 1;
+
+const GATING: u8 = 2;
+
 // The truth of the whole, or why there is none.
 pub enum EvalAnswer {
     Value(Truth),
@@ -156,7 +166,7 @@ impl Tally {
     }
 }
 
-// One answer byte a citation, none over 4.
+// No answer byte is over 4.
 fn all_fit(answers: &[u8]) -> bool
     ensures { λ r. ⌜ r ≡ all (λ b. leb b failed) (now (answers .entry)) ⌝ }
 {
@@ -195,18 +205,18 @@ fn answer_at(answers: &[u8], number: usize) -> EvalAnswer
     }
 }
 
-// What a citation of this kind makes of an operand: 0 dropped by a choice, 1 kept, 2 kept and gating.
+// The mark of a citation of this kind.
 fn kind_mark(kind: ConditionKind) -> u8
     ensures { λ r. ⌜ r ≡ markOfKind kind ⌝ }
 {
     match kind {
-        ConditionKind::Voraussetzung => 2,
-        ConditionKind::Hinweis => 0,
-        ConditionKind::Format => 1,
-        ConditionKind::Wiederholbarkeit => 1,
-        ConditionKind::Zeitpunkt => 1,
-        ConditionKind::Paket => 2,
-        ConditionKind::Other => 1,
+        ConditionKind::Voraussetzung => GATING,
+        ConditionKind::Hinweis => DROPPED,
+        ConditionKind::Format => KEPT,
+        ConditionKind::Wiederholbarkeit => KEPT,
+        ConditionKind::Zeitpunkt => KEPT,
+        ConditionKind::Paket => GATING,
+        ConditionKind::Other => KEPT,
     }
 }
 
@@ -226,7 +236,7 @@ fn mark_row(tree: &[u8], marks: &[u8], row: usize) -> u8
         return kind_mark(ConditionKind::of_text(text_at(tree, left)));
     }
     let mut child = row + 1;
-    let mut mark = 0;
+    let mut mark = DROPPED;
     while 0 < left {
         mark = larger_of(mark, marks[child]);
         child += size_at(tree, child);
@@ -252,7 +262,7 @@ fn mixed(tree: &[u8], marks: &[u8], row: usize, kind: usize) -> bool
     requires { ⌜ (isTree (now tree) ≡ true) × (row < nodes (now tree)) × Marked (now tree) 0 (now marks) × (kind ≡ nodeKind (treeAt (now tree) row)) ⌝ }
     ensures { λ r. ⌜ r ≡ choosing kind && mixes (children (treeAt (now (tree .entry)) row)) ⌝ }
 {
-    if kind < 3 {
+    if kind < OR {
         return false;
     }
     let mut left = number_at(tree, row);
@@ -260,8 +270,8 @@ fn mixed(tree: &[u8], marks: &[u8], row: usize, kind: usize) -> bool
     let mut gate = false;
     let mut free = false;
     while 0 < left {
-        gate = either(gate, marks[child] == 2);
-        free = either(free, marks[child] == 1);
+        gate = either(gate, marks[child] == GATING);
+        free = either(free, marks[child] == KEPT);
         child += size_at(tree, child);
         left -= 1;
     }
@@ -272,10 +282,10 @@ fn mixed(tree: &[u8], marks: &[u8], row: usize, kind: usize) -> bool
 fn drops(kind: usize, mark: u8) -> bool
     ensures { λ r. ⌜ r ≡ choosing kind && eqb mark 0 ⌝ }
 {
-    if kind < 3 {
+    if kind < OR {
         return false;
     }
-    mark == 0
+    mark == DROPPED
 }
 
 // The presence of the subtree at a row.
@@ -284,19 +294,19 @@ fn eval_row(tree: &[u8], answers: &[u8], marks: &[u8], row: usize) -> EvalAnswer
     ensures { λ r. ⌜ evalSaid r ≡ presence (oracleOf (now (answers .entry))) (firstAt (now (tree .entry)) row) (treeAt (now (tree .entry)) row) ⌝ }
 {
     let kind = kind_at(tree, row);
-    let mut left = number_at(tree, row);
+    let mut ahead = number_at(tree, row);
     if kind == 0 {
-        return answer_at(answers, left);
+        return answer_at(answers, ahead);
     }
     if mixed(tree, marks, row, kind) {
         return EvalAnswer::Refused(Refusal::ChoiceOverNeutral);
     }
     let mut child = row + 1;
     let mut tally = Tally::new();
-    while 0 < left {
+    while 0 < ahead {
         let at = child;
         child += size_at(tree, at);
-        left -= 1;
+        ahead -= 1;
         if drops(kind, marks[at]) {
             continue;
         }

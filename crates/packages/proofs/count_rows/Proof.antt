@@ -1,6 +1,5 @@
-use Prim.Native.Nat.{_+_, _-_, _≤_}
+use Prim.Native.Nat.{_-_, _≤_}
 use native.Mathlib.Omega.{arith}
-use lib.ListN.{length}
 use Rattle.packages.proofs.Laws.{Counted, count-begin, count-next, count-end}
 use borrow.Author.Needs.{needs}
 use Rattle.packages.proofs.count_rows.Statement.{statement}

@@ -1,4 +1,3 @@
-use mathlib.Core.Path.{sym, _∙_}
 use borrow.Author.Tests.{not-true, not-false}
 use Rattle.packages.proofs.Laws.{row-none, row-some}
 use borrow.Author.Needs.{needs}

@@ -1,4 +1,3 @@
-use Prim.Native.Nat.{_+_, _≤_}
 use native.Mathlib.Omega.{arith}
 use Rattle.packages.proofs.Laws.{Bytes, bytes-begin, bytes-next, bytes-end}
 use borrow.Author.Needs.{needs}

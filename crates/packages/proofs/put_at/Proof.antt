@@ -1,4 +1,3 @@
-use Prim.Native.Nat.{_+_, _≤_}
 use native.Mathlib.Omega.{arith}
 use Rattle.fields.proofs.Appends.{same, nothing}
 use Rattle.packages.proofs.Laws.{one-row, one-length, no-row}

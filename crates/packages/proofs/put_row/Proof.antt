@@ -1,4 +1,3 @@
-use Prim.Native.Nat.{_+_, _≤_}
 use native.Mathlib.Omega.{arith}
 use Rattle.packages.proofs.Laws.{after-two, after-eight, row-written}
 use borrow.Author.Needs.{needs}

@@ -1,4 +1,4 @@
-use Prim.Native.Nat.{_+_, _-_, _≤_}
+use Prim.Native.Nat.{_-_, _≤_}
 use native.Mathlib.Omega.{arith}
 use Rattle.packages.proofs.Laws.{Going, going-begin, going-room, going-next, going-end}
 use borrow.Author.Needs.{needs}

@@ -1,6 +1,6 @@
 use borrow.Author.Needs.{needs}
 use native.Mathlib.Omega.{arith}
-use mathlib.Core.Path.{_≡_, sym, ap, _∙_}
+use mathlib.Core.Path.{sym, ap, _∙_}
 use Rattle.refusal.specs.Result.{ok}
 use Rattle.refusal.specs.Refusals.{numberOf}
 use Rattle.grammar.specs.Rows.{span}
@@ -37,10 +37,10 @@ eval-row-below t =
     and 3 eval-row-kinds.ps (falls 3 eval-row-kinds.ps _<_ μ-eval-row t) eval-row.Pre
 
 abbrev eval-row-Inv-loop : eval-row-lts.InvT-loop
-eval-row-Inv-loop tree answers marks row kind left₀ child₀ tally₀ left child tally = Evaluating tree answers kind row left child tally
+eval-row-Inv-loop tree answers marks row kind ahead₀ child₀ tally₀ ahead child tally = Evaluating tree answers kind row ahead child tally
 
 abbrev eval-row-μ-loop : eval-row-lts.MeasureT-loop
-eval-row-μ-loop tree answers marks row kind left₀ child₀ tally₀ left child tally = left
+eval-row-μ-loop tree answers marks row kind ahead₀ child₀ tally₀ ahead child tally = ahead
 
 eval-row-kind-at-requires : (t : ℕ) → eval-row-lts.Need-kind-at-requires (
   kind-at-reads.Asked,
@@ -306,7 +306,7 @@ eval-row-add-child-2 : (t : ℕ) → eval-row-lts.Need-add-child-2 (
 ) (eval-row-at t) eval-row.Post eval-row-Inv-loop eval-row-μ-loop
 eval-row-add-child-2 t c = search needs
 
-eval-row-sub-left : (t : ℕ) → eval-row-lts.Need-sub-left (
+eval-row-sub-ahead : (t : ℕ) → eval-row-lts.Need-sub-ahead (
   kind-at-reads.Asked,
   kind-at-reads.Learnt,
   number-at-reads.Asked,
@@ -328,7 +328,7 @@ eval-row-sub-left : (t : ℕ) → eval-row-lts.Need-sub-left (
   rule-reads.Asked,
   rule-reads.Learnt,
 ) (eval-row-at t) eval-row.Post eval-row-Inv-loop eval-row-μ-loop
-eval-row-sub-left t c = search needs
+eval-row-sub-ahead t c = search needs
 
 eval-row-shared-slice-read-drops : (t : ℕ) → eval-row-lts.Need-shared-slice-read-drops (
   kind-at-reads.Asked,
@@ -680,7 +680,7 @@ pub +eval-row-spec : {M : Type 1} → statement M
     (eval-row-loop-holds t)
     (eval-row-size-at-requires t)
     (eval-row-add-child-2 t)
-    (eval-row-sub-left t)
+    (eval-row-sub-ahead t)
     (eval-row-shared-slice-read-drops t)
     (eval-row-drops-requires t)
     (eval-row-loop-less t)

@@ -1,5 +1,5 @@
 use borrow.Author.Needs.{needs}
-use mathlib.Core.Path.{_≡_, _∙_, sym}
+use mathlib.Core.Path.{_∙_, sym}
 use Rattle.presence.proofs.Answers.{fit-count, fit-all}
 use Rattle.presence.proofs.answers_fit.Statement.{statement}
 use Rattle.presence.proofs.answers_fit.Tie as tie

@@ -1,5 +1,5 @@
 use borrow.Author.Needs.{needs}
-use mathlib.Core.Path.{_≡_, sym, _∙_}
+use mathlib.Core.Path.{sym, _∙_}
 use borrow.Author.Tests.{not-true, not-false}
 use Rattle.presence.proofs.Answers.{eval-no-tree, eval-unfit, eval-fit}
 use Rattle.presence.proofs.eval.Statement.{statement}

@@ -1,6 +1,6 @@
 use borrow.Author.Needs.{needs}
 use native.Mathlib.Omega.{arith}
-use mathlib.Core.Path.{_≡_, _∙_}
+use mathlib.Core.Path.{_∙_}
 use Rattle.presence.proofs.Answers.{few-rows, fit-long, whole-presence}
 use Rattle.presence.proofs.eval_tree.Statement.{statement}
 use Rattle.presence.proofs.eval_tree.Tie as tie

@@ -1,4 +1,3 @@
-use borrow.Author.Needs.{needs}
 use borrow.Author.Tests.{lt-ltb, le-ltb}
 use Rattle.presence.specs.Marks.{larger}
 use Rattle.presence.proofs.larger_of.Statement.{statement}

@@ -1,6 +1,6 @@
 use borrow.Author.Needs.{needs}
 use native.Mathlib.Omega.{arith}
-use mathlib.Core.Path.{_≡_, refl, sym, ap, _∙_}
+use mathlib.Core.Path.{sym, ap, _∙_}
 use Rattle.tree.proofs.Walks.{leaf, walk-next}
 use Rattle.presence.specs.Marks.{markOfKind}
 use Rattle.citation.specs.Kinds.{kindOf}

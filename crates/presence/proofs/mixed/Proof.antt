@@ -1,6 +1,5 @@
 use borrow.Author.Needs.{needs}
 use native.Mathlib.Omega.{arith}
-use mathlib.Core.Path.{_≡_, refl, sym, ap, _∙_}
 use borrow.Author.Tests.{lt-ltb, le-ltb}
 use Rattle.tree.proofs.Walks.{walk-next}
 use Rattle.presence.proofs.Walks.{Mixing, mixing-begins, mixing-turns, mixing-gated, mixing-open}

@@ -1,5 +1,4 @@
 use borrow.Author.Needs.{needs}
-use Rattle.presence.specs.Tallies.{added}
 use Rattle.presence.proofs.Tally.add.Statement.{statement}
 use Rattle.presence.proofs.Tally.add.Tie as tie
 

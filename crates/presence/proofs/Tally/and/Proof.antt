@@ -1,4 +1,3 @@
-use borrow.Author.Needs.{needs}
 use Rattle.presence.specs.Tallies.{anded}
 use Rattle.presence.proofs.Tally.and.Statement.{statement}
 use Rattle.presence.proofs.Tally.and.Tie as tie

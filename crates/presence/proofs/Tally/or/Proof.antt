@@ -1,4 +1,3 @@
-use borrow.Author.Needs.{needs}
 use Rattle.presence.specs.Tallies.{ored}
 use Rattle.presence.proofs.Tally.or.Statement.{statement}
 use Rattle.presence.proofs.Tally.or.Tie as tie

@@ -1,5 +1,5 @@
 use borrow.Author.Needs.{needs}
-use borrow.Author.Tests.{eq-eqb, ne-eqb}
+use borrow.Author.Tests.{ne-eqb}
 use Rattle.presence.specs.Tallies.{ruled}
 use Rattle.presence.proofs.Tally.rule.Statement.{statement}
 use Rattle.presence.proofs.Tally.rule.Tie as tie

@@ -1,4 +1,3 @@
-use borrow.Author.Needs.{needs}
 use Rattle.presence.specs.Tallies.{xored}
 use Rattle.presence.proofs.Tally.xor.Statement.{statement}
 use Rattle.presence.proofs.Tally.xor.Tie as tie
