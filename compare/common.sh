@@ -19,6 +19,13 @@ build() {
     fi
 }
 
+# The program that writes the tables; rt proves and links it where it is missing.
+find_tables() {
+    if [ ! -x "$root/target/bin/tables" ]; then
+        (cd "$root" && rt check tables) >&2 || exit 2
+    fi
+}
+
 # REPLAY, else the program that rt links; rt proves and links it where it is missing.
 find_replay() {
     local linked=$root/target/bin/replay

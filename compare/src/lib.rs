@@ -19,4 +19,5 @@ pub mod oracle;
 pub mod paper;
 pub mod random;
 pub mod request;
+pub mod tables;
 pub mod tree;

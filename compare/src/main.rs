@@ -7,7 +7,7 @@ use std::process::ExitCode;
 use compare::driver::{self, Outcome, Plan, shown};
 use compare::listed::Listed;
 use compare::request::Function;
-use compare::{list, request};
+use compare::{list, request, tables};
 
 fn main() -> ExitCode {
     let words: Vec<String> = env::args().skip(1).collect();
@@ -49,6 +49,8 @@ fn run(long: bool) -> Result<bool, String> {
     let stop = env::var_os("STOP_AT_FIRST").is_some();
     let plan = Plan { replay: &replay, long, seed: seed()?, stop, listed };
     println!("replay {}, seed {}", replay.display(), plan.seed);
+    let asked = tables::compare(&root().join("target/bin/tables"))?;
+    println!("white space and status words: {asked} questions, no difference");
     let known = driver::known(&replay)?;
     let mut outcome = driver::run(&plan, &known);
     if outcome.failure.is_none() {
