@@ -4,11 +4,10 @@ use mathlib.Core.Path.{_≡_, refl, sym, ap, _∙_}
 use mathlib.Core.Bool.{Bool, true, false, cond}
 use mathlib.Core.List.{List, [], _∷_}
 use lib.ListN.{length, take, drop}
-use lib.Dec.{ltb, eqb}
 use borrow.Author.Tests.{lt-ltb, le-ltb, eq-eqb, ne-eqb}
 use Rattle.text.specs.Bytes.{same}
-use Rattle.protocol.specs.Hex.{Decoded, bytes, noBytes, pairs, fieldBytes}
-use Rattle.protocol.specs.Fields.{Next, field, noField, Both, both, notBoth, fieldWidth, ending, fieldAt, lastOf, oneAt, paired, withNext, twoAt}
+use Rattle.protocol.specs.Hex.{bytes, noBytes, pairs, fieldBytes}
+use Rattle.protocol.specs.Fields.{field, noField, both, notBoth, fieldWidth, ending, fieldAt, lastOf, oneAt, paired, withNext, twoAt, allThree, notThree, tripled, withTwo, threeAt}
 
 module _ (f : List ℕ) where
   pub field-dash : same (45 ∷ []) f ≡ true → bytes [] ≡ fieldBytes f
@@ -59,5 +58,17 @@ module _ (line : List ℕ) (at : ℕ) where
   two-read t x n u y h e d = go u ∙ ap (paired x) d ∙ ap (withNext line) (rw h at e)
     where
       go : (u : Bool) → cond u (both x y) notBoth ≡ paired x (cond u (bytes y) noBytes)
+      go true = refl
+      go false = refl
+
+  pub three-not : (t : Bool) (x : List ℕ) (n : ℕ) → t ≡ false → cond t (field x n) noField ≡ fieldAt line at → notThree ≡ threeAt line at
+  unfolding threeAt
+  three-not t x n h e = ap (withTwo line) (rw h at e)
+
+  pub three-read : (t : Bool) (x : List ℕ) (n : ℕ) (u : Bool) (y z : List ℕ) → t ≡ true → cond t (field x n) noField ≡ fieldAt line at → cond u (both y z) notBoth ≡ twoAt line n → cond u (allThree x y z) notThree ≡ threeAt line at
+  unfolding threeAt
+  three-read t x n u y z h e d = go u ∙ ap (tripled x) d ∙ ap (withTwo line) (rw h at e)
+    where
+      go : (u : Bool) → cond u (allThree x y z) notThree ≡ tripled x (cond u (both y z) notBoth)
       go true = refl
       go false = refl

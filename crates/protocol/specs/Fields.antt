@@ -9,6 +9,7 @@ use Rattle.text.specs.Bytes.{place}
 use Rattle.protocol.specs.Hex.{Decoded, bytes, noBytes, fieldBytes}
 use Rattle.protocol.specs.declared.Field.{Field}
 use Rattle.protocol.specs.declared.Two.{Two}
+use Rattle.protocol.specs.declared.Three.{Three}
 
 -- a field's byte string and where the field ends
 pub data Next : Type 0 where
@@ -19,6 +20,11 @@ pub data Next : Type 0 where
 pub data Both : Type 0 where
   both : List ℕ → List ℕ → Both
   notBoth : Both
+
+-- the byte strings of three fields
+pub data AllThree : Type 0 where
+  allThree : List ℕ → List ℕ → List ℕ → AllThree
+  notThree : AllThree
 
 -- n bytes stand at the start of xs
 abbrev pub Within : ℕ → List ℕ → Type 0
@@ -64,6 +70,20 @@ withNext line noField = notBoth
 unfoldable pub twoAt : List ℕ → ℕ → Both
 twoAt line at = withNext line (fieldAt line at)
 
+-- a byte string before two others
+abbrev pub tripled : List ℕ → Both → AllThree
+tripled s (both t u) = allThree s t u
+tripled s notBoth = notThree
+
+-- the two fields after one that was read
+abbrev pub withTwo : List ℕ → Next → AllThree
+withTwo line (field s n) = tripled s (twoAt line n)
+withTwo line noField = notThree
+
+-- the three fields after a place
+unfoldable pub threeAt : List ℕ → ℕ → AllThree
+threeAt line at = withTwo line (fieldAt line at)
+
 -- what was put at the start of a lent buffer, and where the field ends
 abbrev pub fieldSaid : Field → List ℕ → Next
 fieldSaid r out = cond (r .good) (field (take (r .len) out) (r .next)) noField
@@ -71,3 +91,7 @@ fieldSaid r out = cond (r .good) (field (take (r .len) out) (r .next)) noField
 -- what was put at the start of two lent buffers
 abbrev pub twoSaid : Two → List ℕ → List ℕ → Both
 twoSaid r a b = cond (r .good) (both (take (r .first) a) (take (r .second) b)) notBoth
+
+-- what was put at the start of three lent buffers
+abbrev pub threeSaid : Three → List ℕ → List ℕ → List ℕ → AllThree
+threeSaid r a b c = cond (r .good) (allThree (take (r .first) a) (take (r .second) b) (take (r .third) c)) notThree

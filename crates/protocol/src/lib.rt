@@ -1,9 +1,10 @@
-// Lines of fields that are parted by one space: byte strings read from lower-case hex, and bytes and hex written.
+// Lines of a word and fields, each after one space: byte strings read from lower-case hex, and bytes
+// and hex written.
 ghost use mathlib.Core.Path.{_≡_};
 ghost use Prim.Native.Nat.{_+_, _*_, _≤_, _<_};
 ghost use lib.ListN.{length};
 ghost use Rattle.protocol.specs.Hex.{digitOf, digitValue, fieldOf, pairs, fieldBytes, filledSaid};
-ghost use Rattle.protocol.specs.Fields.{Within, fieldWidth, fieldAt, oneAt, twoAt, fieldSaid, twoSaid};
+ghost use Rattle.protocol.specs.Fields.{Within, fieldWidth, fieldAt, oneAt, twoAt, threeAt, fieldSaid, twoSaid, threeSaid};
 ghost use Rattle.protocol.specs.Output.{placed};
 
 // How many bytes were put at the start of a lent buffer, if there was a byte string.
@@ -24,6 +25,14 @@ pub struct Two {
     pub good: bool,
     pub first: usize,
     pub second: usize,
+}
+
+// The same of three fields and three buffers.
+pub struct Three {
+    pub good: bool,
+    pub first: usize,
+    pub second: usize,
+    pub third: usize,
 }
 
 fn digit_of(d: u8) -> u8
@@ -52,7 +61,7 @@ fn digit_value(b: u8) -> u8
     16
 }
 
-// The same of one pair of digits and more.
+// Puts the byte string that pairs of digits write at the start of out.
 fn decode_pairs(field: &[u8], out: &mut [u8]) -> Filled
     requires { ⌜ length (now field) ≤ 2 * length (now out) ⌝ }
     ensures { λ r. ⌜ Within (r .len) (now (out .exit)) ⌝ }
@@ -114,7 +123,8 @@ pub fn field_end(s: &[u8]) -> usize
     text::find(s, b" ")
 }
 
-// Puts the byte string of one field, which stands between two places of the line, at the start of out.
+// Puts the byte string of the field after the space at a place of the line at the start of out. At
+// the line's end there is none.
 pub fn next_field(line: &[u8], at: usize, out: &mut [u8]) -> Field
     requires { ⌜ (at ≤ length (now line)) × (length (now line) ≤ 2 * length (now out)) ⌝ }
     ensures { λ r. ⌜ (r .next ≤ length (now (line .entry))) × Within (r .len) (now (out .exit)) ⌝ }
@@ -180,7 +190,38 @@ pub fn two_fields(line: &[u8], at: usize, first: &mut [u8], second: &mut [u8]) -
     }
 }
 
-// Writes s at a place of out.
+// The same of the three fields that are left.
+pub fn three_fields(
+    line: &[u8],
+    at: usize,
+    first: &mut [u8],
+    second: &mut [u8],
+    third: &mut [u8],
+) -> Three
+    requires { ⌜ (at ≤ length (now line)) × ((length (now line) ≤ 2 * length (now first)) × ((length (now line) ≤ 2 * length (now second)) × (length (now line) ≤ 2 * length (now third)))) ⌝ }
+    ensures { λ r. ⌜ Within (r .first) (now (first .exit)) × (Within (r .second) (now (second .exit)) × Within (r .third) (now (third .exit))) ⌝ }
+    ensures { λ r. ⌜ threeSaid r (now (first .exit)) (now (second .exit)) (now (third .exit)) ≡ threeAt (now (line .entry)) at ⌝ }
+{
+    let field = next_field(line, at, first);
+    if !field.good {
+        return Three {
+            good: false,
+            first: 0,
+            second: 0,
+            third: 0,
+        };
+    }
+    let next = field.next;
+    let last = two_fields(line, next, second, third);
+    Three {
+        good: last.good,
+        first: field.len,
+        second: last.first,
+        third: last.second,
+    }
+}
+
+// Writes s at a place of out, and answers the place behind it.
 pub fn put(out: &mut [u8], at: usize, s: &[u8]) -> usize
     requires { ⌜ at + length (now s) ≤ length (now out) ⌝ }
     ensures { λ r. ⌜ r ≡ at + length (now (s .entry)) ⌝ }
@@ -194,9 +235,10 @@ pub fn put(out: &mut [u8], at: usize, s: &[u8]) -> usize
     at + i
 }
 
-// Writes s as a field at a place of out.
+// The same of s as a field.
 pub fn put_hex(out: &mut [u8], at: usize, s: &[u8]) -> usize
-    requires { ⌜ at + length (fieldOf (now s)) ≤ length (now out) ⌝ }
+    requires { ⌜ at + (2 * length (now s) + 1) ≤ length (now out) ⌝ }
+    ensures { λ r. ⌜ r ≤ at + (2 * length (now (s .entry)) + 1) ⌝ }
     ensures { λ r. ⌜ r ≡ at + length (fieldOf (now (s .entry))) ⌝ }
     ensures { λ _. ⌜ now (out .exit) ≡ placed (now (out .entry)) at (fieldOf (now (s .entry))) ⌝ }
 {

@@ -4,13 +4,21 @@ use mathlib.Core.List.{List}
 use lib.ListN.{length}
 use Rattle.replay.specs.declared.State.{State}
 
--- the scratch holds any field of the line, and the output the longest answer
-abbrev pub Asked : ℕ → List ℕ → List ℕ → List ℕ → Type 0
-Asked at line text out = (at ≤ length line) × ((length line ≤ 2 * length text) × (65600 ≤ length out))
+-- the length of the longest answer: some words, and the digits of the longest field
+abbrev pub room : ℕ
+room = 65600
 
--- the scratch holds any field of the longest line, and the output the longest answer
-abbrev pub Ready : List ℕ → List ℕ → List ℕ → Type 0
-Ready first second out = (32768 ≤ length first) × ((32768 ≤ length second) × (65600 ≤ length out))
+-- the longest answer fits
+abbrev pub HasRoom : List ℕ → Type 0
+HasRoom out = room ≤ length out
+
+-- the scratch holds any field of the line, and the longest answer fits
+abbrev pub Asked : ℕ → List ℕ → List ℕ → List ℕ → Type 0
+Asked at line text out = (at ≤ length line) × ((length line ≤ 2 * length text) × HasRoom out)
+
+-- the scratch holds any field of the longest line, and the longest answer fits
+abbrev pub Ready : List ℕ → List ℕ → List ℕ → List ℕ → Type 0
+Ready first second third out = (32768 ≤ length first) × ((32768 ≤ length second) × ((32768 ≤ length third) × HasRoom out))
 
 -- what is held of the line and what waits to be written stand in their buffers
 abbrev pub Held : State → List ℕ → List ℕ → Type 0

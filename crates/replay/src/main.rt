@@ -3,18 +3,20 @@
 // A request is a word and its fields, each after exactly one space. A field is a byte string in
 // lower-case hex, or `-` for an empty one.
 //
-//     kind TEXT               0 to 6: Voraussetzung, Hinweis, Format, Wiederholbarkeit, Zeitpunkt, Paket, Other
+//     kind TEXT               0 to 6: Voraussetzung, Hinweis, Format, Wiederholbarkeit, Zeitpunkt,
+//                             Paket, Other
 //     paket TEXT              ok LOW MARK HIGH, in decimal; HIGH is 0 where MARK is 0, unbounded
 //     evaluate TEXT VALUE     H, V or U: Holds, Violated, Unregistered
 //     registered TEXT         0 or 1
 //
 // Each may be answered `refused N`. A line that is no request, an empty one among them, and a line
 // of more than 65,536 bytes are answered `bad request`. A line ends before its line feed, and a
-// last line needs none.
+// last line needs none. Answers are written once the input that has come is used up, so a program
+// may wait for each.
 ghost use mathlib.Core.Path.{_≡_};
 ghost use Prim.Native.Nat.{_+_, _*_, _≤_, _<_};
 ghost use lib.ListN.{length};
-ghost use Rattle.replay.specs.Rooms.{Asked, Ready, Held};
+ghost use Rattle.replay.specs.Rooms.{room, HasRoom, Asked, Ready, Held};
 use citation::ConditionKind;
 use citation::KindAnswer;
 use citation::Paket;
@@ -34,7 +36,7 @@ const HELD: usize = 65537;
 // The bytes that a field of a line can hold.
 const BYTES: usize = 32768;
 
-// The longest answer, which shows a field, and two of them.
+// The longest answer, some words and the digits of the longest field. The output has room for two.
 const ROOM: usize = 65600;
 
 const OUT: usize = 131200;
@@ -71,7 +73,7 @@ fn number(out: &mut [u8], at: usize, n: u64) -> usize
 
 // A line of one number.
 fn figure(out: &mut [u8], n: u64) -> usize
-    requires { ⌜ 65600 ≤ length (now out) ⌝ }
+    requires { ⌜ HasRoom (now out) ⌝ }
     ensures { λ r. ⌜ r ≤ length (now (out .exit)) ⌝ }
 {
     let at = decimal(out, 0, n);
@@ -79,7 +81,7 @@ fn figure(out: &mut [u8], n: u64) -> usize
 }
 
 fn bad_request(out: &mut [u8]) -> usize
-    requires { ⌜ 65600 ≤ length (now out) ⌝ }
+    requires { ⌜ HasRoom (now out) ⌝ }
     ensures { λ r. ⌜ r ≤ length (now (out .exit)) ⌝ }
 {
     protocol::put(out, 0, b"bad request\n")
@@ -87,7 +89,7 @@ fn bad_request(out: &mut [u8]) -> usize
 
 // refused N
 fn refused(out: &mut [u8], why: Refusal) -> usize
-    requires { ⌜ 65600 ≤ length (now out) ⌝ }
+    requires { ⌜ HasRoom (now out) ⌝ }
     ensures { λ r. ⌜ r ≤ length (now (out .exit)) ⌝ }
 {
     let at = protocol::put(out, 0, b"refused");
@@ -97,7 +99,7 @@ fn refused(out: &mut [u8], why: Refusal) -> usize
 
 // A line of one byte.
 fn letter(out: &mut [u8], b: u8) -> usize
-    requires { ⌜ 65600 ≤ length (now out) ⌝ }
+    requires { ⌜ HasRoom (now out) ⌝ }
     ensures { λ r. ⌜ r ≤ length (now (out .exit)) ⌝ }
 {
     protocol::put(out, 0, &[b, b'\n'])
@@ -105,7 +107,7 @@ fn letter(out: &mut [u8], b: u8) -> usize
 
 // ok LOW MARK HIGH
 fn bounds(out: &mut [u8], p: Paket) -> usize
-    requires { ⌜ 65600 ≤ length (now out) ⌝ }
+    requires { ⌜ HasRoom (now out) ⌝ }
     ensures { λ r. ⌜ r ≤ length (now (out .exit)) ⌝ }
 {
     let at = protocol::put(out, 0, b"ok");
@@ -184,9 +186,16 @@ fn registered(line: &[u8], at: usize, text: &mut [u8], out: &mut [u8]) -> usize
     }
 }
 
-// The answer to a line, at the start of out.
-fn respond(line: &[u8], first: &mut [u8], second: &mut [u8], out: &mut [u8]) -> usize
-    requires { ⌜ Ready (now first) (now second) (now out) ⌝ }
+// The answer to a line, at the start of out. A request has three fields at most, and a scratch
+// slice for each.
+fn respond(
+    line: &[u8],
+    first: &mut [u8],
+    second: &mut [u8],
+    third: &mut [u8],
+    out: &mut [u8],
+) -> usize
+    requires { ⌜ Ready (now first) (now second) (now third) (now out) ⌝ }
     ensures { λ r. ⌜ r ≤ length (now (out .exit)) ⌝ }
 {
     if LINE < line.len() {
@@ -224,8 +233,8 @@ fn written(s: State, out: &[u8]) -> State
 
 // Writes what waits where there is no room for an answer behind it.
 fn with_room(s: State, out: &[u8]) -> State
-    requires { ⌜ (s .waiting ≤ length (now out)) × (65600 ≤ length (now out)) ⌝ }
-    ensures { λ r. ⌜ (r .len ≡ s .len) × (r .waiting + 65600 ≤ length (now (out .entry))) ⌝ }
+    requires { ⌜ (s .waiting ≤ length (now out)) × HasRoom (now out) ⌝ }
+    ensures { λ r. ⌜ (r .len ≡ s .len) × (r .waiting + room ≤ length (now (out .entry))) ⌝ }
 {
     let waiting = s.waiting;
     if ROOM <= out.len() - waiting {
@@ -234,34 +243,38 @@ fn with_room(s: State, out: &[u8]) -> State
     written(s, out)
 }
 
-fn end_line(s: State, line: &[u8], first: &mut [u8], second: &mut [u8], out: &mut [u8]) -> State
-    requires { ⌜ Ready (now first) (now second) (now out) × Held s (now line) (now out) ⌝ }
+fn end_line(
+    s: State,
+    line: &[u8],
+    first: &mut [u8],
+    second: &mut [u8],
+    third: &mut [u8],
+    out: &mut [u8],
+) -> State
+    requires { ⌜ Ready (now first) (now second) (now third) (now out) × Held s (now line) (now out) ⌝ }
     ensures { λ r. ⌜ Held r (now (line .entry)) (now (out .exit)) ⌝ }
 {
     let state = with_room(s, out);
     let len = state.len;
     let from = state.waiting;
-    let n = respond(text::head(line, len), first, second, &mut out[from..]);
+    let n = respond(
+        text::head(line, len),
+        first,
+        second,
+        third,
+        &mut out[from..],
+    );
     State {
         len: 0,
         waiting: from + n,
     }
 }
 
-fn take_byte(
-    b: u8,
-    s: State,
-    line: &mut [u8],
-    first: &mut [u8],
-    second: &mut [u8],
-    out: &mut [u8],
-) -> State
-    requires { ⌜ Ready (now first) (now second) (now out) × Held s (now line) (now out) ⌝ }
-    ensures { λ r. ⌜ Held r (now (line .exit)) (now (out .exit)) ⌝ }
+// One byte more is held, while there is room.
+fn keep(b: u8, s: State, line: &mut [u8]) -> State
+    requires { ⌜ s .len ≤ length (now line) ⌝ }
+    ensures { λ r. ⌜ (r .len ≤ length (now (line .exit))) × (r .waiting ≡ s .waiting) ⌝ }
 {
-    if b == b'\n' {
-        return end_line(s, line, first, second, out);
-    }
     let len = s.len;
     if len < line.len() {
         line[len] = b;
@@ -273,21 +286,40 @@ fn take_byte(
     s
 }
 
+fn take_byte(
+    b: u8,
+    s: State,
+    line: &mut [u8],
+    first: &mut [u8],
+    second: &mut [u8],
+    third: &mut [u8],
+    out: &mut [u8],
+) -> State
+    requires { ⌜ Ready (now first) (now second) (now third) (now out) × Held s (now line) (now out) ⌝ }
+    ensures { λ r. ⌜ Held r (now (line .exit)) (now (out .exit)) ⌝ }
+{
+    if b == b'\n' {
+        return end_line(s, line, first, second, third, out);
+    }
+    keep(b, s, line)
+}
+
 fn take_input(
     input: &[u8],
     s: State,
     line: &mut [u8],
     first: &mut [u8],
     second: &mut [u8],
+    third: &mut [u8],
     out: &mut [u8],
 ) -> State
-    requires { ⌜ Ready (now first) (now second) (now out) × Held s (now line) (now out) ⌝ }
+    requires { ⌜ Ready (now first) (now second) (now third) (now out) × Held s (now line) (now out) ⌝ }
     ensures { λ r. ⌜ Held r (now (line .exit)) (now (out .exit)) ⌝ }
 {
     let mut state = s;
     let mut i = 0;
     while i < input.len() {
-        state = take_byte(input[i], state, line, first, second, out);
+        state = take_byte(input[i], state, line, first, second, third, out);
         i += 1;
     }
     state
@@ -300,14 +332,15 @@ fn read_some(
     line: &mut [u8],
     first: &mut [u8],
     second: &mut [u8],
+    third: &mut [u8],
     out: &mut [u8],
 ) -> Turn
-    requires { ⌜ Ready (now first) (now second) (now out) × Held s (now line) (now out) ⌝ }
+    requires { ⌜ Ready (now first) (now second) (now third) (now out) × Held s (now line) (now out) ⌝ }
     ensures { λ r. ⌜ Held (r .state) (now (line .exit)) (now (out .exit)) ⌝ }
 {
     let got = libc::read(STDIN_FILENO, input);
     let n = io::count(got, input);
-    let state = take_input(&input[..n], s, line, first, second, out);
+    let state = take_input(&input[..n], s, line, first, second, third, out);
     Turn {
         more: 0 < n,
         state: written(state, out),
@@ -328,19 +361,20 @@ fn answer_all(
     line: &mut [u8],
     first: &mut [u8],
     second: &mut [u8],
+    third: &mut [u8],
     out: &mut [u8],
 )
-    requires { ⌜ Ready (now first) (now second) (now out) ⌝ }
+    requires { ⌜ Ready (now first) (now second) (now third) (now out) ⌝ }
 {
     let mut state = State { len: 0, waiting: 0 };
     let mut turns = u64::MAX;
     while turns > 0 {
-        let t = read_some(state, input, line, first, second, out);
+        let t = read_some(state, input, line, first, second, third, out);
         state = t.state;
         turns = left(turns, t.more);
     }
     if state.len > 0 {
-        let last = end_line(state, line, first, second, out);
+        let last = end_line(state, line, first, second, third, out);
         written(last, out);
     }
 }
@@ -350,6 +384,14 @@ fn main() {
     let mut line = [0u8; HELD];
     let mut first = [0u8; BYTES];
     let mut second = [0u8; BYTES];
+    let mut third = [0u8; BYTES];
     let mut out = [0u8; OUT];
-    answer_all(&mut input, &mut line, &mut first, &mut second, &mut out);
+    answer_all(
+        &mut input,
+        &mut line,
+        &mut first,
+        &mut second,
+        &mut third,
+        &mut out,
+    );
 }

@@ -11,9 +11,6 @@ use Rattle.protocol.specs.Hex.{pairs}
 use Rattle.protocol.proofs.Laws.{ledBy, pairs-next, pairs-no-first, pairs-no-second, pairs-odd, pairs-end, led-none}
 use Rattle.protocol.proofs.decode_pairs.Statement.{statement}
 use Rattle.protocol.proofs.decode_pairs.Tie as tie
-use Rattle.protocol.proofs.decode_pairs.Reads as reads
-use Rattle.protocol.proofs.decode_pairs.Lts as lts
-use Rattle.protocol.proofs.digit_value.Reads as digit-value-reads
 
 abbrev Inv-loop : tie.InvT-loop
 Inv-loop field out₀ i₀ n₀ out i n = (ledBy (take n out) (pairs (drop i field)) ≡ pairs field) × (i ≡ 2 * n) × (i ≤ length field) × (length out ≡ length out₀)
@@ -21,78 +18,60 @@ Inv-loop field out₀ i₀ n₀ out i n = (ledBy (take n out) (pairs (drop i fie
 abbrev μ-loop : tie.MeasureT-loop
 μ-loop field out₀ i₀ n₀ out i n = length field - i
 
--- src/lib.rt:63:5
 loop-holds : tie.Need-loop-holds Inv-loop μ-loop
 loop-holds c =
     (led-none _, omega arith, omega arith, refl)
 
--- src/lib.rt:63:11
 add-loop : tie.Need-add-loop Inv-loop μ-loop
 add-loop c = search needs
 
--- src/lib.rt:64:32
 shared-slice-read-digit-value : tie.Need-shared-slice-read-digit-value Inv-loop μ-loop
 shared-slice-read-digit-value c = search needs
 
--- src/lib.rt:64:13
 digit-value-requires : tie.Need-digit-value-requires Inv-loop μ-loop
 digit-value-requires c κs = search needs
 
--- src/lib.rt:66:13
 same-length : tie.Need-same-length Inv-loop μ-loop
 same-length c = search needs
 
--- src/lib.rt:66:13
 returns : tie.Need-returns Inv-loop μ-loop
 returns c =
     ((omega arith, refl), pairs-no-first (c .before .before .before .before .before .before .before .args .field .now) (c .before .before .before .before .loop .i) _ (omega arith) (omega (arith, c .before .digit-value .ensures)) ∙ c .before .before .before .before .loop .inv .0)
 
--- src/lib.rt:71:37
 add-digit-value : tie.Need-add-digit-value Inv-loop μ-loop
 add-digit-value c = search needs
 
--- src/lib.rt:71:31
 shared-slice-read-digit-value-2 : tie.Need-shared-slice-read-digit-value-2 Inv-loop μ-loop
 shared-slice-read-digit-value-2 c = search needs
 
--- src/lib.rt:71:13
 digit-value-requires-2 : tie.Need-digit-value-requires-2 Inv-loop μ-loop
 digit-value-requires-2 c κs = search needs
 
--- src/lib.rt:73:13
 same-length-2 : tie.Need-same-length-2 Inv-loop μ-loop
 same-length-2 c = search needs
 
--- src/lib.rt:73:13
 returns-2 : tie.Need-returns-2 Inv-loop μ-loop
 returns-2 c =
     ((omega arith, refl), pairs-no-second (c .before .before .before .before .before .before .before .before .before .before .args .field .now) (c .before .before .before .before .before .before .before .loop .i) _ (omega arith) (omega (arith, c .before .digit-value2 .ensures)) ∙ c .before .before .before .before .before .before .before .loop .inv .0)
 
--- src/lib.rt:78:18
 mul-out : tie.Need-mul-out Inv-loop μ-loop
 mul-out c = search needs
 
--- src/lib.rt:78:18
 add-out : tie.Need-add-out Inv-loop μ-loop
 add-out c = search needs
 
--- src/lib.rt:78:9
 slice-write-out : tie.Need-slice-write-out Inv-loop μ-loop
 slice-write-out c = search needs
 
--- src/lib.rt:79:9
 add-n : tie.Need-add-n Inv-loop μ-loop
 add-n c = search needs
 
--- src/lib.rt:80:9
 add-i : tie.Need-add-i Inv-loop μ-loop
 add-i c = search needs
 
--- src/lib.rt:63:5
 loop-less : tie.Need-loop-less Inv-loop μ-loop
 loop-less c = search needs
 
--- src/lib.rt:63:5
 loop-again : tie.Need-loop-again Inv-loop μ-loop
 loop-again c =
     let f = c .before .before .before .before .before .before .before .before .before .before .args .field .now in
@@ -103,20 +82,16 @@ loop-again c =
       simp length-set (l .inv .3),
     )
 
--- src/lib.rt:83:9
 same-length-3 : tie.Need-same-length-3 Inv-loop μ-loop
 same-length-3 c = search needs
 
--- src/lib.rt:83:9
 returns-3 : tie.Need-returns-3 Inv-loop μ-loop
 returns-3 c =
     ((omega arith, refl), pairs-odd (c .before .before .before .before .before .args .field .now) (c .before .before .loop .i) _ (omega arith) (omega arith) ∙ c .before .before .loop .inv .0)
 
--- src/lib.rt:56:1
 same-length-4 : tie.Need-same-length-4 Inv-loop μ-loop
 same-length-4 c = search needs
 
--- src/lib.rt:56:1
 returns-4 : tie.Need-returns-4 Inv-loop μ-loop
 returns-4 c =
     ((omega arith, sym (length-take-le _ _ (omega arith))), pairs-end (c .before .before .before .before .before .args .field .now) (c .before .before .loop .i) _ (omega arith) ∙ c .before .before .loop .inv .0)

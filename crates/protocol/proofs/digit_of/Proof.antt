@@ -3,23 +3,17 @@ use borrow.Author.Tests.{lt-ltb, le-ltb}
 use Rattle.protocol.specs.Hex.{digitOf}
 use Rattle.protocol.proofs.digit_of.Statement.{statement}
 use Rattle.protocol.proofs.digit_of.Tie as tie
-use Rattle.protocol.proofs.digit_of.Reads as reads
-use Rattle.protocol.proofs.digit_of.Lts as lts
 
--- src/lib.rt:33:17
 add-result : tie.Need-add-result
 add-result c = search needs
 
--- src/lib.rt:33:33
 add-result-2 : tie.Need-add-result-2
 add-result-2 c = search needs
 
--- src/lib.rt:29:1
 returns : tie.Need-returns
 unfolding digitOf
 returns c = rw (lt-ltb _ _ (c .if1 .taken))
 
--- src/lib.rt:29:1
 returns-2 : tie.Need-returns-2
 unfolding digitOf
 returns-2 c = rw (le-ltb _ _ (c .if1 .left))

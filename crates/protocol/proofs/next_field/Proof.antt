@@ -1,6 +1,6 @@
 use borrow.Author.Needs.{needs}
-use Prim.Native.Nat.{ℕ, _+_, _*_, _≤_, _<_}
-use mathlib.Core.Path.{_≡_, refl, sym, ap, ap₂, _∙_}
+use Prim.Native.Nat.{_+_}
+use mathlib.Core.Path.{_≡_, refl, ap, ap₂, _∙_}
 use native.Mathlib.Omega.{arith}
 use lib.ListN.{length, take, drop, length-drop}
 use lib.Seq.{length-take-le}
@@ -9,35 +9,23 @@ use Rattle.protocol.specs.Fields.{fieldWidth}
 use Rattle.protocol.proofs.Lines.{field-past, field-read}
 use Rattle.protocol.proofs.next_field.Statement.{statement}
 use Rattle.protocol.proofs.next_field.Tie as tie
-use Rattle.protocol.proofs.next_field.Reads as reads
-use Rattle.protocol.proofs.next_field.Lts as lts
-use Rattle.protocol.proofs.decode.Reads as decode-reads
-use Rattle.protocol.proofs.field_end.Reads as field-end-reads
-use Rattle.text.proofs.head.Reads as head-reads
-use Rattle.text.proofs.tail.Reads as tail-reads
 
--- src/lib.rt:124:9
 returns : tie.Need-returns
 returns c =
     ((omega arith, (omega arith, refl)), field-past (c .before .before .before .args .line .now) (c .before .before .before .args .at) (omega arith))
 
--- src/lib.rt:130:33
 add-tail : tie.Need-add-tail
 add-tail c = search needs
 
--- src/lib.rt:130:9
 tail-requires : tie.Need-tail-requires
 tail-requires c κs = search needs
 
--- src/lib.rt:131:9
 field-end-requires : tie.Need-field-end-requires
 field-end-requires c κs = search needs
 
--- src/lib.rt:132:25
 head-requires : tie.Need-head-requires
 head-requires c κs = search needs
 
--- src/lib.rt:132:9
 decode-requires : tie.Need-decode-requires
 decode-requires c κs =
     let line = c .before .before .before .before .before .before .before .args .line .now in
@@ -48,19 +36,15 @@ decode-requires c κs =
     let l = length-drop (at + 1) line in
     omega (arith, ap length (c .before .head .ensures ∙ ap (take (c .before .before .field-end .result)) rest), length-take-le (c .before .before .field-end .result) (drop (at + 1) line) k)
 
--- src/lib.rt:136:15
 add-t7 : tie.Need-add-t7
 add-t7 c = search needs
 
--- src/lib.rt:136:15
 add-t12 : tie.Need-add-t12
 add-t12 c = search needs
 
--- src/lib.rt:118:1
 same-length : tie.Need-same-length
 same-length c = search needs
 
--- src/lib.rt:118:1
 returns-2 : tie.Need-returns-2
 returns-2 c =
     let line = c .before .before .before .before .before .before .before .before .before .before .args .line .now in

@@ -3,18 +3,13 @@ use Prim.Native.Nat.{ℕ, _+_, _-_, _*_, _/_, _%_, _≤_, _<_}
 use mathlib.Core.Path.{_≡_, refl, sym, ap, _∙_}
 use mathlib.Core.List.{List, [], _∷_, _++_}
 use native.Mathlib.Omega.{arith}
-use native.Mathlib.Numerals.{add-one}
 use lib.ListN.{length, take, getD, set, length-set, length-append}
-use lib.Seq.{length-take-le, take-suc, take-all}
+use lib.Seq.{length-take-le, take-all}
 use Rattle.protocol.specs.Output.{placed}
 use Rattle.protocol.specs.Hex.{hexOf, fieldOf, digitOf}
-use Rattle.protocol.proofs.Laws.{placed-none, placed-more, length-placed, hex-more, length-hex, field-some, field-none}
+use Rattle.protocol.proofs.Laws.{placed-none, placed-more, hex-more, length-hex, field-some, field-none}
 use Rattle.protocol.proofs.put_hex.Statement.{statement}
 use Rattle.protocol.proofs.put_hex.Tie as tie
-use Rattle.protocol.proofs.put_hex.Reads as reads
-use Rattle.protocol.proofs.put_hex.Lts as lts
-use Rattle.protocol.proofs.digit_of.Reads as digit-of-reads
-use Rattle.protocol.proofs.put.Reads as put-reads
 
 abbrev Inv-loop : tie.InvT-loop
 Inv-loop out₀ at s i₀ to₀ out i to = (out ≡ placed out₀ at (hexOf (take i s))) × (to ≡ at + 2 * i) × (i ≤ length s) × (length out ≡ length out₀) × (at + 2 * length s ≤ length out₀) × (0 < length s)
@@ -22,73 +17,55 @@ Inv-loop out₀ at s i₀ to₀ out i to = (out ≡ placed out₀ at (hexOf (tak
 abbrev μ-loop : tie.MeasureT-loop
 μ-loop out₀ at s i₀ to₀ out i to = length s - i
 
--- src/lib.rt:196:29
 slice-aggregate-put : tie.Need-slice-aggregate-put Inv-loop μ-loop
 slice-aggregate-put c = search needs
 
--- src/lib.rt:196:9
 put-requires : tie.Need-put-requires Inv-loop μ-loop
-put-requires c κs =
-    let p = rw (field-none (c .before .before .before .before .before .args .s .now) (c .before .before .if1 .taken)) at (c .before .before .before .before .before .pre) in
-    omega arith
+put-requires c κs = omega arith
 
--- src/lib.rt:196:9
 same-length : tie.Need-same-length Inv-loop μ-loop
 same-length c = search needs
 
--- src/lib.rt:196:9
 returns : tie.Need-returns Inv-loop μ-loop
 returns c =
-    rw (field-none (c .before .before .before .before .before .before .before .before .args .s .now) (c .before .before .before .before .before .if1 .taken)) (c .before .before .put .ensures)
+    let n = c .before .before .before .before .before .if1 .taken in
+    (omega (arith, c .before .before .put .ensures .0), rw (field-none (c .before .before .before .before .before .before .before .before .args .s .now) n) (c .before .before .put .ensures))
 
--- src/lib.rt:200:5
 loop-holds : tie.Need-loop-holds Inv-loop μ-loop
 unfolding hexOf
 loop-holds c =
-    let s = c .before .before .before .args .s .now in
-    let h : 0 < length s = omega (arith, c .if1 .left) in
-    let p = rw (field-some s h, length-hex s) at (c .before .before .before .pre) in
-    (placed-none (c .before .before .before .args .out .now) (c .before .before .before .args .at), omega arith, omega arith, refl, p, h)
+    let h : 0 < length (c .before .before .before .args .s .now) = omega (arith, c .if1 .left) in
+    (placed-none (c .before .before .before .args .out .now) (c .before .before .before .args .at), omega arith, omega arith, refl, omega arith, h)
 
--- src/lib.rt:201:17
 shared-slice-read-b : tie.Need-shared-slice-read-b Inv-loop μ-loop
 shared-slice-read-b c = search needs
 
--- src/lib.rt:202:19
 digit-of-requires : tie.Need-digit-of-requires Inv-loop μ-loop
 digit-of-requires c κs =
     omega (arith, c .shared-slice-known2 .given (c .before .before .loop .i))
 
--- src/lib.rt:202:9
 slice-write-out : tie.Need-slice-write-out Inv-loop μ-loop
 slice-write-out c = search needs
 
--- src/lib.rt:203:23
 digit-of-requires-2 : tie.Need-digit-of-requires-2 Inv-loop μ-loop
 digit-of-requires-2 c κs = search needs
 
--- src/lib.rt:203:13
 add-out : tie.Need-add-out Inv-loop μ-loop
 add-out c = search needs
 
--- src/lib.rt:203:9
 slice-write-out-2 : tie.Need-slice-write-out-2 Inv-loop μ-loop
 slice-write-out-2 c =
     simp length-set (omega arith)
 
--- src/lib.rt:204:9
 add-to : tie.Need-add-to Inv-loop μ-loop
 add-to c = search needs
 
--- src/lib.rt:205:9
 add-i : tie.Need-add-i Inv-loop μ-loop
 add-i c = search needs
 
--- src/lib.rt:200:5
 loop-less : tie.Need-loop-less Inv-loop μ-loop
 loop-less c = search needs
 
--- src/lib.rt:200:5
 loop-again : tie.Need-loop-again Inv-loop μ-loop
 loop-again c =
     let s = c .before .before .before .before .before .before .before .before .args .s .now in
@@ -111,18 +88,19 @@ loop-again c =
       l .inv .5,
     )
 
--- src/lib.rt:190:1
 same-length-2 : tie.Need-same-length-2 Inv-loop μ-loop
 same-length-2 c = search needs
 
--- src/lib.rt:190:1
 returns-2 : tie.Need-returns-2 Inv-loop μ-loop
 returns-2 c =
     let s = c .before .before .before .before .before .args .s .now in
     let l = c .before .loop in
     let f : fieldOf s ≡ hexOf s = field-some s (l .inv .5) in (
-      rw (f, length-hex s) (omega arith),
-      l .inv .0 ∙ ap (placed (c .before .before .before .before .before .args .out .now) (c .before .before .before .before .before .args .at)) (ap hexOf (take-all (l .i) s (omega arith)) ∙ sym f),
+      omega arith,
+      (
+        rw (f, length-hex s) (omega arith),
+        l .inv .0 ∙ ap (placed (c .before .before .before .before .before .args .out .now) (c .before .before .before .before .before .args .at)) (ap hexOf (take-all (l .i) s (omega arith)) ∙ sym f),
+      ),
     )
 
 pub put-hex-spec : {M : Type 1} → statement M

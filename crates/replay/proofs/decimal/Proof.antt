@@ -1,7 +1,7 @@
 use borrow.Author.Needs.{needs}
 use native.Mathlib.Omega.{arith}
-use Prim.Native.Nat.{ℕ, _+_, _-_, _^_, _≤_, _<_}
-use mathlib.Core.Path.{_≡_, refl, sym}
+use Prim.Native.Nat.{ℕ, _-_, _^_, _≤_, _<_}
+use mathlib.Core.Path.{_≡_, refl}
 use mathlib.Core.Bool.{Bool, true, false}
 use native.Mathlib.Nat.{pow-le-pow-right}
 use lib.Dec.{leb}
@@ -9,10 +9,6 @@ use borrow.Author.Tests.{leb-true, leb-false}
 use Rattle.io.specs.Digits.{Fewest}
 use Rattle.replay.proofs.decimal.Statement.{statement}
 use Rattle.replay.proofs.decimal.Tie as tie
-use Rattle.replay.proofs.decimal.Reads as reads
-use Rattle.replay.proofs.decimal.Lts as lts
-use Rattle.io.proofs.decimal.Reads as decimal-reads
-use Rattle.protocol.proofs.put.Reads as put-reads
 
 -- a number of 64 bits has 20 digits at most
 few : (n k : ℕ) → Fewest 10 1 n k → n < 2 ^ 64 → k ≤ 20
@@ -22,28 +18,22 @@ few n k f h = go (leb k 20) refl
     go true e = leb-true k 20 e
     go false e = let l : 20 < k = leb-false k 20 e in absurd (omega (arith, f .2 (omega arith), pow-le-pow-right {n = 10} (omega arith) {i = 20} {j = k - 1} (omega arith)))
 
--- src/main.rt:56:9
 decimal-requires : tie.Need-decimal-requires
 decimal-requires c κs = search needs
 
--- src/main.rt:57:28
 array-share-prefix-digits : tie.Need-array-share-prefix-digits
 array-share-prefix-digits c = search needs
 
--- src/main.rt:57:28
 slice-aggregate-put : tie.Need-slice-aggregate-put
 slice-aggregate-put c = search needs
 
--- src/main.rt:57:5
 put-requires : tie.Need-put-requires
 put-requires c κs =
     omega (arith, few (c .before .before .before .before .before .args .n) (c .before .before .decimal .result) (c .before .before .decimal .ensures .1 .0) (c .before .before .before .before .before .fits .n .fits))
 
--- src/main.rt:51:1
 same-length : tie.Need-same-length
 same-length c = search needs
 
--- src/main.rt:51:1
 returns : tie.Need-returns
 returns c =
     omega (arith, few (c .before .before .before .before .before .before .before .before .args .n) (c .before .before .before .before .before .decimal .result) (c .before .before .before .before .before .decimal .ensures .1 .0) (c .before .before .before .before .before .before .before .before .fits .n .fits))

@@ -1,0 +1,125 @@
+-- From the answers of the lexer and the parser to the tree of a text. Assumes nothing.
+use mathlib.Core.Path.{_≡_, refl, sym, ap, _∙_, subst}
+use mathlib.Core.Bool.{true}
+use mathlib.Core.List.{List, [], _∷_}
+use Prim.Native.Nat.{ℕ, suc, _+_, _*_, _≤_}
+use native.Mathlib.Omega.{arith}
+use lib.ListN.{length, take, length-take}
+use Rattle.refusal.specs.Result.{Result, ok, refused, refuse, refused≢ok, map-ok, then}
+use Rattle.refusal.specs.Refusals.{numberOf}
+use Rattle.refusal.specs.declared.Refusal.{Refusal}
+use Rattle.utf8.specs.Utf8.{isUtf8, decode}
+use Rattle.utf8.specs.Limits.{textLimit}
+use Rattle.utf8.proofs.Sound.{utf8-sound}
+use Rattle.grammar.specs.Expr.{Expr, concat, citations, count}
+use Rattle.grammar.specs.Lex.{Tok, texts}
+use Rattle.grammar.specs.Rows.{rows, span, rows-span}
+use Rattle.grammar.specs.Parse.{parse}
+use Rattle.grammar.specs.Cites.{parse-cites}
+use Rattle.grammar.specs.Reading.{citationLimit, expression, expression-given}
+use Rattle.lexer.specs.Tokens.{kindsOf, counted, lexedSaid, tokenized, tokensOf, cuts}
+use Rattle.lexer.specs.declared.Lexed.{Lexed}
+use Rattle.lexer.specs.declared.Lexed.the-variants as lex
+use Rattle.lexer.proofs.Turns as turns
+use Rattle.lexer.proofs.Told.{Told, told, told-refused}
+use Rattle.lexer.proofs.Limits.{tokenized-parsed}
+use Rattle.parser.specs.Packed.{packed}
+use Rattle.parser.specs.Answer.{citesIn, parsedSaid, rowsIn, Answers, Holds}
+use Rattle.parser.specs.declared.Parsed.{Parsed}
+use Rattle.parser.specs.declared.Parsed.the-variants as parsed
+use Rattle.parser.proofs.Bare.{cites-of-kinds}
+use Rattle.parser.proofs.Orders.{packed-length}
+use Rattle.reader.specs.Made.{Room, Stands}
+
+kinds-length : (ts : List Tok) → length (kindsOf ts) ≡ length ts
+unfolding kindsOf
+kinds-length [] = refl
+kinds-length (t ∷ ts) = ap suc (kinds-length ts)
+
+abbrev firstOf : Result (ℕ × ℕ × ℕ) → ℕ
+firstOf (ok x) = x .0
+firstOf (refused k) = 0
+
+tokens-room : (kinds : List ℕ) (x : Result (List Tok)) (n m b : ℕ) → ok (n, m, b) ≡ map-ok counted x → take (length (tokensOf x)) kinds ≡ kindsOf (tokensOf x) → n ≤ length kinds
+unfolding map-ok
+tokens-room kinds (ok ts) n m b e h = let q : n ≡ length ts = ap firstOf e in omega (arith, q, simp length-take at (ap length h), kinds-length ts)
+tokens-room kinds (refused k) n m b e h = absurd (refused≢ok (sym e))
+
+-- the text has no tokens
+pub not-lexed : (s : List ℕ) (o : Lexed) (why : Refusal) → o ≡ lex.Refused why → lexedSaid o ≡ map-ok counted (tokenized (decode s)) → expression (decode s) ≡ refuse why
+unfolding then
+not-lexed s o why e a =
+    let q : tokenized (decode s) ≡ refuse why = told-refused (tokenized (decode s)) why (sym (ap lexedSaid e) ∙ a) in
+    sym (tokenized-parsed (decode s)) ∙ rw q
+
+module _ (s kinds places : List ℕ) (k p w r : ℕ) (room : Room (length s) k p w r) (isk : length kinds ≡ k) (isp : length places ≡ p) (n m b : ℕ) where
+  -- what `lex` told
+  pub told-counts : (o : Lexed) → o ≡ lex.Tokens n m b → turns.Answers s kinds places (tokenized (decode s)) o → Told s kinds places n m b
+  told-counts o e a =
+      let q = subst (turns.Answers s kinds places (tokenized (decode s))) e a in
+      let l = tokens-room kinds (tokenized (decode s)) n m b (q .0) (q .1 .0) in
+      told s kinds places n m b (λ x y. let z = room .cites m x (omega arith) in omega arith) q
+
+  module _ (t : Told s kinds places n m b) where
+    kinds-are : kindsOf (t .toks) ≡ take n kinds
+    kinds-are = sym (t .shown)
+
+    cites-are : citesIn (take n kinds) ≡ m
+    cites-are = ap citesIn (t .shown) ∙ cites-of-kinds (t .toks) ∙ sym (t .cites)
+
+    within : m ≤ k
+    within = omega (arith, t .fewer, t .room)
+
+    -- the scratch is large enough to parse
+    pub parse-room : (length (take n kinds) ≤ textLimit) × (citesIn (take n kinds) ≤ citationLimit) × (2 * citesIn (take n kinds) ≤ w + 1) × (2 * citesIn (take n kinds) ≤ r + 1)
+    parse-room =
+        let a = room .works m (t .most) within in
+        let c = room .nodes m (t .most) within in
+        (omega (arith, length-take n kinds, room .short, t .room), omega (arith, cites-are, t .most), omega (arith, cites-are, a), omega (arith, cites-are, c))
+
+    read-by : expression (decode s) ≡ parse (t .toks)
+    unfolding then
+    read-by = sym (tokenized-parsed (decode s)) ∙ ap (λ x. then x parse) (t .is)
+
+    -- the tokens are no expression
+    pub not-parsed : (o : Parsed) (why : Refusal) → o ≡ parsed.Refused why → Answers (take n kinds) o → expression (decode s) ≡ refuse why
+    unfolding map-ok
+    not-parsed o why e a = read-by ∙ go (parse (t .toks)) (sym (ap parsedSaid e) ∙ a (t .toks) kinds-are)
+      where
+        go : (x : Result Expr) → refuse why ≡ map-ok span x → x ≡ refuse why
+        go (ok x) h = absurd (refused≢ok h)
+        go (refused j) h = cc
+
+    record Was (x : Result Expr) (nodes : ℕ) : Type 0 where
+      pub tree : Expr
+      pub is : x ≡ ok tree
+      pub many : nodes ≡ span tree
+
+    was : (x : Result Expr) (nodes : ℕ) → ok nodes ≡ map-ok span x → Was x nodes
+    unfolding map-ok
+    was (ok x) nodes h = record { tree = x; is = refl; many = cc }
+    was (refused j) nodes h = absurd (refused≢ok (sym h))
+
+    -- the tree of the text
+    pub stands : isUtf8 s ≡ true → (held : List ℕ) (nodes : ℕ) (o : Parsed) → o ≡ parsed.Rows nodes → Answers (take n kinds) o → Holds (take n kinds) held → Stands s places held nodes m b
+    stands u held nodes o e a h =
+        let g = was (parse (t .toks)) nodes (sym (ap parsedSaid e) ∙ a (t .toks) kinds-are) in
+        let x = g .tree in
+        let is : expression (decode s) ≡ ok x = read-by ∙ g .is in
+        let c : citations x ≡ texts (t .toks) = parse-cites (t .toks) x (g .is) in
+        let size : length (packed (rows 0 x)) ≡ nodes = packed-length (rows 0 x) ∙ rows-span 0 x ∙ sym (g .many) in
+        let rowed : take nodes held ≡ packed (rows 0 x) =
+        ap (λ j. take j held) (sym size) ∙ subst (λ y. take (length (rowsIn y)) held ≡ rowsIn y) (g .is) (h (t .toks) kinds-are) in
+        let z = room .cites m (t .most) within in
+        record {
+          tree = x;
+          is = is;
+          fits = expression-given (decode s) (utf8-sound s u .0) x is .1;
+          nodes = g .many;
+          cites = t .cites ∙ ap length (sym c);
+          bytes = t .bytes ∙ ap (λ y. length (concat y)) (sym c);
+          rowed = rowed;
+          cited = t .held ∙ sym c;
+          rowsRoom = omega (arith, simp length-take at (ap length rowed), size);
+          citesRoom = omega arith;
+        }

@@ -1,0 +1,127 @@
+// Reading a text, and a status, as the bytes of a tree.
+use lexer::Lexed;
+use parser::Parsed;
+use refusal::Refusal;
+use utf8::Admitted;
+use utf8::TEXT_LIMIT;
+ghost use mathlib.Core.Path.{_≡_};
+ghost use mathlib.Core.Bool.{true};
+ghost use Prim.Native.Nat.{_≤_};
+ghost use lib.ListN.{length};
+ghost use Rattle.utf8.specs.Utf8.{isUtf8, decode};
+ghost use Rattle.utf8.specs.Limits.{textLimit};
+ghost use Rattle.grammar.specs.Reading.{expression};
+ghost use Rattle.grammar.specs.Outcome.{answerOf, writtenOf, parseAnswer};
+ghost use Rattle.reader.specs.Said.{parseSaid, treeOutcome};
+ghost use Rattle.reader.specs.Made.{Room, Made};
+
+// A text of so many bytes is read in a scratch that is small.
+const SHORT: usize = 64;
+
+// The length of the tree that was written, or why there is none.
+pub enum ParseAnswer {
+    Length(usize),
+    Refused(Refusal),
+}
+
+// The counts of node rows, of citations and of the bytes in them.
+enum Sizes {
+    Tree {
+        nodes: usize,
+        cites: usize,
+        bytes: usize,
+    },
+    Refused(Refusal),
+}
+
+pub struct Expr {}
+
+// The node rows of a text, and the places of its citations.
+fn make(
+    text: &[u8],
+    kinds: &mut [u8],
+    places: &mut [u32],
+    work: &mut [u64],
+    rows: &mut [u64],
+) -> Sizes
+    requires { ⌜ (length (now text) ≤ textLimit) × (isUtf8 (now text) ≡ true) × Room (length (now text)) (length (now kinds)) (length (now places)) (length (now work)) (length (now rows)) ⌝ }
+    ensures { λ r. ⌜ Made (now (text .entry)) (now (places .exit)) (now (rows .exit)) r ⌝ }
+{
+    match lexer::lex(text, kinds, places) {
+        Lexed::Refused(why) => Sizes::Refused(why),
+        Lexed::Tokens {
+            tokens,
+            cites,
+            bytes,
+        } => match parser::parse_tokens(&kinds[..tokens], work, rows) {
+            Parsed::Refused(why) => Sizes::Refused(why),
+            Parsed::Rows(nodes) => Sizes::Tree {
+                nodes: nodes,
+                cites: cites,
+                bytes: bytes,
+            },
+        },
+    }
+}
+
+// Writes the tree of a text that was admitted, if there is room.
+fn read(
+    text: &[u8],
+    kinds: &mut [u8],
+    places: &mut [u32],
+    work: &mut [u64],
+    rows: &mut [u64],
+    out: &mut [u8],
+) -> ParseAnswer
+    requires { ⌜ (length (now text) ≤ textLimit) × (isUtf8 (now text) ≡ true) × Room (length (now text)) (length (now kinds)) (length (now places)) (length (now work)) (length (now rows)) ⌝ }
+    ensures { λ r. ⌜ parseSaid r ≡ answerOf (treeOutcome (expression (decode (now (text .entry))))) (length (now (out .entry))) ⌝ }
+    ensures { λ _. ⌜ now (out .exit) ≡ writtenOf (treeOutcome (expression (decode (now (text .entry))))) (now (out .entry)) ⌝ }
+{
+    match make(text, kinds, places, work, rows) {
+        Sizes::Refused(why) => ParseAnswer::Refused(why),
+        Sizes::Tree {
+            nodes,
+            cites,
+            bytes,
+        } => {
+            let length = 12 + 6 * nodes + 4 * cites + bytes;
+            if out.len() < length {
+                return ParseAnswer::Refused(Refusal::NoRoom);
+            }
+            ParseAnswer::Length(writer::write_tree(rows, nodes, text, places, cites, bytes, out))
+        }
+    }
+}
+
+// The same in a scratch of its own, by the length of the text.
+fn read_text(text: &[u8], out: &mut [u8]) -> ParseAnswer
+    requires { ⌜ (length (now text) ≤ textLimit) × (isUtf8 (now text) ≡ true) ⌝ }
+    ensures { λ r. ⌜ parseSaid r ≡ answerOf (treeOutcome (expression (decode (now (text .entry))))) (length (now (out .entry))) ⌝ }
+    ensures { λ _. ⌜ now (out .exit) ≡ writtenOf (treeOutcome (expression (decode (now (text .entry))))) (now (out .entry)) ⌝ }
+{
+    if text.len() <= SHORT {
+        let mut kinds = [0u8; 64];
+        let mut places = [0u32; 64];
+        let mut work = [0u64; 127];
+        let mut rows = [0u64; 127];
+        return read(text, &mut kinds, &mut places, &mut work, &mut rows, out);
+    }
+    let mut kinds = [0u8; 4400];
+    let mut places = [0u32; 256];
+    let mut work = [0u64; 511];
+    let mut rows = [0u64; 511];
+    read(text, &mut kinds, &mut places, &mut work, &mut rows, out)
+}
+
+impl Expr {
+    // Writes the tree that a text reads as: 10, 11, the leftmost of 1, 2, 3, then 6, 12, 13, the first met of 4 and 5, and 14.
+    pub fn parse(text: &[u8], out: &mut [u8]) -> ParseAnswer
+        ensures { λ r. ⌜ parseSaid r ≡ answerOf (parseAnswer (now (text .entry))) (length (now (out .entry))) ⌝ }
+        ensures { λ _. ⌜ now (out .exit) ≡ writtenOf (parseAnswer (now (text .entry))) (now (out .entry)) ⌝ }
+    {
+        match utf8::admit(text, TEXT_LIMIT) {
+            Admitted::Refused(why) => ParseAnswer::Refused(why),
+            Admitted::Fine => read_text(text, out),
+        }
+    }
+}
