@@ -1,3 +1,4 @@
 pub mod Back
 pub mod Making
 pub mod Outcomes
+pub mod Statuses

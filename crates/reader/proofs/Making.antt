@@ -6,18 +6,17 @@ use Prim.Native.Nat.{ℕ, suc, _+_, _*_, _≤_}
 use native.Mathlib.Omega.{arith}
 use lib.ListN.{length, take, length-take}
 use Rattle.refusal.specs.Result.{Result, ok, refused, refuse, refused≢ok, map-ok, then}
-use Rattle.refusal.specs.Refusals.{numberOf}
 use Rattle.refusal.specs.declared.Refusal.{Refusal}
 use Rattle.utf8.specs.Utf8.{isUtf8, decode}
 use Rattle.utf8.specs.Limits.{textLimit}
 use Rattle.utf8.proofs.Sound.{utf8-sound}
-use Rattle.grammar.specs.Expr.{Expr, concat, citations, count}
+use Rattle.grammar.specs.Expr.{Expr, concat, citations}
 use Rattle.grammar.specs.Lex.{Tok, texts}
 use Rattle.grammar.specs.Rows.{rows, span, rows-span}
 use Rattle.grammar.specs.Parse.{parse}
 use Rattle.grammar.specs.Cites.{parse-cites}
 use Rattle.grammar.specs.Reading.{citationLimit, expression, expression-given}
-use Rattle.lexer.specs.Tokens.{kindsOf, counted, lexedSaid, tokenized, tokensOf, cuts}
+use Rattle.lexer.specs.Tokens.{kindsOf, counted, lexedSaid, tokenized, tokensOf}
 use Rattle.lexer.specs.declared.Lexed.{Lexed}
 use Rattle.lexer.specs.declared.Lexed.the-variants as lex
 use Rattle.lexer.proofs.Turns as turns

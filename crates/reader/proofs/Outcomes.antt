@@ -1,10 +1,10 @@
 -- The answers of reading and the lent bytes. Assumes nothing.
 use mathlib.Core.Path.{_≡_, refl, sym, ap, _∙_}
-use mathlib.Core.List.{List, _++_}
+use mathlib.Core.List.{List}
 use Prim.Native.Nat.{ℕ, _+_, _*_, _≤_, _<_}
 use native.Mathlib.Omega.{arith}
-use lib.ListN.{length, take, drop}
-use Rattle.refusal.specs.Result.{Result, ok, refused, refuse, map-ok, then}
+use lib.ListN.{length, take}
+use Rattle.refusal.specs.Result.{Result, ok, refuse, map-ok, then}
 use Rattle.refusal.specs.declared.Refusal.{Refusal}
 use Rattle.refusal.specs.declared.Refusal.the-variants.{NoRoom}
 use Rattle.utf8.specs.Utf8.{decode}
@@ -12,8 +12,8 @@ use Rattle.utf8.specs.Limits.{textLimit, admitted, admitSaid}
 use Rattle.utf8.specs.declared.Admitted.{Admitted}
 use Rattle.utf8.specs.declared.Admitted.the-variants as admit
 use Rattle.utf8.proofs.Limits.{admitted-fine, admitted-refused}
-use Rattle.grammar.specs.Expr.{Expr, concat, citations, count}
-use Rattle.grammar.specs.Rows.{rows, span}
+use Rattle.grammar.specs.Expr.{Expr, concat, citations}
+use Rattle.grammar.specs.Rows.{rows}
 use Rattle.grammar.specs.Bytes.{bytesOf}
 use Rattle.grammar.specs.Bytes as bytes
 use Rattle.grammar.specs.Reading.{expression, reading}

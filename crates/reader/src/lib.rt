@@ -2,17 +2,21 @@
 use lexer::Lexed;
 use parser::Parsed;
 use refusal::Refusal;
+use status::StatusKind;
+use status::WordAnswer;
+use text::between;
 use utf8::Admitted;
 use utf8::TEXT_LIMIT;
 ghost use mathlib.Core.Path.{_≡_};
 ghost use mathlib.Core.Bool.{true};
-ghost use Prim.Native.Nat.{_≤_};
-ghost use lib.ListN.{length};
+ghost use Prim.Native.Nat.{_+_, _≤_};
+ghost use lib.ListN.{length, drop};
 ghost use Rattle.utf8.specs.Utf8.{isUtf8, decode};
 ghost use Rattle.utf8.specs.Limits.{textLimit};
 ghost use Rattle.grammar.specs.Reading.{expression};
-ghost use Rattle.grammar.specs.Outcome.{answerOf, writtenOf, parseAnswer};
-ghost use Rattle.reader.specs.Said.{parseSaid, treeOutcome};
+ghost use Rattle.grammar.specs.Status.{words, afterWord, ofWords};
+ghost use Rattle.grammar.specs.Outcome.{answerOf, writtenOf, parseAnswer, statusAnswer};
+ghost use Rattle.reader.specs.Said.{parseSaid, treeOutcome, statusSaid, statusOutcome};
 ghost use Rattle.reader.specs.Made.{Room, Made};
 
 // A text of so many bytes is read in a scratch that is small.
@@ -21,6 +25,13 @@ const SHORT: usize = 64;
 // The length of the tree that was written, or why there is none.
 pub enum ParseAnswer {
     Length(usize),
+    Refused(Refusal),
+}
+
+// The status word, with the length of the tree that was written after it if there is one; or why there is no status.
+pub enum StatusAnswer {
+    Alone(StatusKind),
+    Tree { kind: StatusKind, length: usize },
     Refused(Refusal),
 }
 
@@ -35,6 +46,8 @@ enum Sizes {
 }
 
 pub struct Expr {}
+
+pub struct Status {}
 
 // The node rows of a text, and the places of its citations.
 fn make(
@@ -122,6 +135,73 @@ impl Expr {
         match utf8::admit(text, TEXT_LIMIT) {
             Admitted::Refused(why) => ParseAnswer::Refused(why),
             Admitted::Fine => read_text(text, out),
+        }
+    }
+}
+
+// What follows a status word: the words from `from` on, joined in the scratch, and read.
+fn after_word(
+    kind: StatusKind,
+    text: &[u8],
+    from: usize,
+    joined: &mut [u8],
+    out: &mut [u8],
+) -> StatusAnswer
+    requires { ⌜ (from ≤ length (now text)) × (length (now text) ≤ length (now joined)) × (length (now joined) ≤ textLimit) × (isUtf8 (drop from (now text)) ≡ true) ⌝ }
+    ensures { λ r. ⌜ statusSaid r ≡ answerOf (statusOutcome (afterWord kind (words (decode (drop from (now (text .entry))))))) (length (now (out .entry))) ⌝ }
+    ensures { λ _. ⌜ now (out .exit) ≡ writtenOf (statusOutcome (afterWord kind (words (decode (drop from (now (text .entry))))))) (now (out .entry)) ⌝ }
+{
+    let n = lexer::join_words(text, from, joined);
+    if n == 0 {
+        return StatusAnswer::Alone(kind);
+    }
+    match read_text(&joined[..n], out) {
+        ParseAnswer::Refused(why) => StatusAnswer::Refused(why),
+        ParseAnswer::Length(length) => StatusAnswer::Tree {
+            kind: kind,
+            length: length,
+        },
+    }
+}
+
+// The status of a text that was admitted.
+fn read_status(text: &[u8], joined: &mut [u8], out: &mut [u8]) -> StatusAnswer
+    requires { ⌜ (length (now text) ≤ length (now joined)) × (length (now joined) ≤ textLimit) × (isUtf8 (now text) ≡ true) ⌝ }
+    ensures { λ r. ⌜ statusSaid r ≡ answerOf (statusOutcome (ofWords (words (decode (now (text .entry)))))) (length (now (out .entry))) ⌝ }
+    ensures { λ _. ⌜ now (out .exit) ≡ writtenOf (statusOutcome (ofWords (words (decode (now (text .entry)))))) (now (out .entry)) ⌝ }
+{
+    let word = lexer::first_word(text);
+    let from = word.from;
+    let end = word.end;
+    match StatusKind::from_word(between(text, from, end - from)) {
+        WordAnswer::NoWord => StatusAnswer::Refused(Refusal::NoStatusWord),
+        WordAnswer::Is(kind) => after_word(kind, text, end, joined, out),
+    }
+}
+
+// The same in a scratch of its own, by the length of the text.
+fn scan_status(text: &[u8], out: &mut [u8]) -> StatusAnswer
+    requires { ⌜ (length (now text) ≤ textLimit) × (isUtf8 (now text) ≡ true) ⌝ }
+    ensures { λ r. ⌜ statusSaid r ≡ answerOf (statusOutcome (ofWords (words (decode (now (text .entry)))))) (length (now (out .entry))) ⌝ }
+    ensures { λ _. ⌜ now (out .exit) ≡ writtenOf (statusOutcome (ofWords (words (decode (now (text .entry)))))) (now (out .entry)) ⌝ }
+{
+    if text.len() <= SHORT {
+        let mut joined = [0u8; 64];
+        return read_status(text, &mut joined, out);
+    }
+    let mut joined = [0u8; 4400];
+    read_status(text, &mut joined, out)
+}
+
+impl Status {
+    // The status that a text reads as: 10, 11 and 9, then as `Expr::parse` reads the words after the status word; a word alone needs no room.
+    pub fn parse(text: &[u8], out: &mut [u8]) -> StatusAnswer
+        ensures { λ r. ⌜ statusSaid r ≡ answerOf (statusAnswer (now (text .entry))) (length (now (out .entry))) ⌝ }
+        ensures { λ _. ⌜ now (out .exit) ≡ writtenOf (statusAnswer (now (text .entry))) (now (out .entry)) ⌝ }
+    {
+        match utf8::admit(text, TEXT_LIMIT) {
+            Admitted::Refused(why) => StatusAnswer::Refused(why),
+            Admitted::Fine => scan_status(text, out),
         }
     }
 }

@@ -1,5 +1,5 @@
 use native.Mathlib.Omega.{arith}
-use mathlib.Core.Path.{sym, subst}
+use mathlib.Core.Path.{subst}
 use Rattle.reader.specs.Made.{Made}
 use Rattle.reader.proofs.Outcomes.{refused-reading, small, cuts-size, no-room, written}
 use borrow.Author.Needs.{needs}

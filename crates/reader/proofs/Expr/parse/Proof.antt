@@ -1,4 +1,3 @@
-use native.Mathlib.Omega.{arith}
 use Rattle.utf8.specs.Limits.{textLimit}
 use Rattle.utf8.proofs.Limits.{fine-length, fine-utf8}
 use Rattle.reader.proofs.Outcomes.{not-admitted, admitted-reading}
