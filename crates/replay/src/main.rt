@@ -8,6 +8,16 @@
 //     paket TEXT              ok LOW MARK HIGH, in decimal; HIGH is 0 where MARK is 0, unbounded
 //     evaluate TEXT VALUE     H, V or U: Holds, Violated, Unregistered
 //     registered TEXT         0 or 1
+//     expr TEXT BUF           ok LENGTH BUF', the tree in the buffer
+//     status TEXT BUF         ok CODE LENGTH BUF', LENGTH `none` for a word alone
+//     tree TREE               ok
+//     print TREE BUF          ok LENGTH BUF', the print in the buffer
+//     eval TREE ANSWERS       0 to 3: False, Unknown, True, Neutral
+//     pakete TREE BUF         ok ROWS BUF', the package rows in the buffer
+//     truth TREE VALUE        0 to 2
+//     violations TREE VALUE BUF   ok COUNT BUF', the citation numbers in the buffer
+//
+// BUF is what a lent buffer holds before the call, BUF' after it; a refusal shows it too, `refused N BUF'`.
 //
 // Each may be answered `refused N`. A line that is no request, an empty one among them, and a line
 // of more than 65,536 bytes are answered `bad request`. A line ends before its line feed, and a
@@ -26,7 +36,16 @@ use formats::RegisteredAnswer;
 use formats::VerdictAnswer;
 use libc::STDIN_FILENO;
 use libc::STDOUT_FILENO;
+use packages::PaketeAnswer;
+use presence::EvalAnswer;
+use printer::Displayed;
+use reader::Expr;
+use reader::ParseAnswer;
+use reader::Status;
+use reader::StatusAnswer;
 use refusal::Refusal;
+use verdicts::TruthAnswer;
+use verdicts::ViolationsAnswer;
 
 // The longest line. One byte more is held, by which a longer one is told.
 const LINE: usize = 65536;
@@ -186,6 +205,297 @@ fn registered(line: &[u8], at: usize, text: &mut [u8], out: &mut [u8]) -> usize
     }
 }
 
+// ok N BUF
+fn done(out: &mut [u8], n: u64, buf: &[u8]) -> usize
+    requires { ⌜ HasRoom (now out) × (length (now buf) ≤ 32768) ⌝ }
+    ensures { λ r. ⌜ r ≤ length (now (out .exit)) ⌝ }
+{
+    let at = protocol::put(out, 0, b"ok");
+    let end = number(out, at, n);
+    let from = protocol::put(out, end, b" ");
+    let last = protocol::put_hex(out, from, buf);
+    protocol::put(out, last, b"\n")
+}
+
+// refused N BUF
+fn turned_back(out: &mut [u8], why: Refusal, buf: &[u8]) -> usize
+    requires { ⌜ HasRoom (now out) × (length (now buf) ≤ 32768) ⌝ }
+    ensures { λ r. ⌜ r ≤ length (now (out .exit)) ⌝ }
+{
+    let at = protocol::put(out, 0, b"refused");
+    let end = number(out, at, why.number() as u64);
+    let from = protocol::put(out, end, b" ");
+    let last = protocol::put_hex(out, from, buf);
+    protocol::put(out, last, b"\n")
+}
+
+fn expr_into(text: &[u8], buf: &mut [u8], out: &mut [u8]) -> usize
+    requires { ⌜ HasRoom (now out) × (length (now buf) ≤ 32768) ⌝ }
+    ensures { λ r. ⌜ r ≤ length (now (out .exit)) ⌝ }
+{
+    match Expr::parse(text, buf) {
+        ParseAnswer::Refused(why) => turned_back(out, why, buf),
+        ParseAnswer::Length(k) => done(out, k as u64, buf),
+    }
+}
+
+fn expr(line: &[u8], at: usize, text: &mut [u8], buf: &mut [u8], out: &mut [u8]) -> usize
+    requires { ⌜ Asked at (now line) (now text) (now out) × (length (now line) ≤ 2 * length (now buf)) ⌝ }
+    ensures { λ r. ⌜ r ≤ length (now (out .exit)) ⌝ }
+{
+    let fields = protocol::two_fields(line, at, text, buf);
+    if !fields.good {
+        return bad_request(out);
+    }
+    let n = fields.first;
+    let m = fields.second;
+    if BYTES < m {
+        return bad_request(out);
+    }
+    expr_into(&text[..n], &mut buf[..m], out)
+}
+
+// ok CODE none BUF
+fn alone(out: &mut [u8], code: u8, buf: &[u8]) -> usize
+    requires { ⌜ HasRoom (now out) × (length (now buf) ≤ 32768) ⌝ }
+    ensures { λ r. ⌜ r ≤ length (now (out .exit)) ⌝ }
+{
+    let at = protocol::put(out, 0, b"ok");
+    let end = number(out, at, code as u64);
+    let from = protocol::put(out, end, b" none ");
+    let last = protocol::put_hex(out, from, buf);
+    protocol::put(out, last, b"\n")
+}
+
+// ok CODE LENGTH BUF; the code has one digit
+fn stated(out: &mut [u8], code: u8, n: usize, buf: &[u8]) -> usize
+    requires { ⌜ HasRoom (now out) × (length (now buf) ≤ 32768) ⌝ }
+    ensures { λ r. ⌜ r ≤ length (now (out .exit)) ⌝ }
+{
+    let at = protocol::put(out, 0, b"ok ");
+    let digit = protocol::put(out, at, &[48 + code % 10]);
+    let end = number(out, digit, n as u64);
+    let from = protocol::put(out, end, b" ");
+    let last = protocol::put_hex(out, from, buf);
+    protocol::put(out, last, b"\n")
+}
+
+fn status_into(text: &[u8], buf: &mut [u8], out: &mut [u8]) -> usize
+    requires { ⌜ HasRoom (now out) × (length (now buf) ≤ 32768) ⌝ }
+    ensures { λ r. ⌜ r ≤ length (now (out .exit)) ⌝ }
+{
+    match Status::parse(text, buf) {
+        StatusAnswer::Refused(why) => turned_back(out, why, buf),
+        StatusAnswer::Alone(kind) => alone(out, kind.code(), buf),
+        StatusAnswer::Tree { kind, length } => stated(out, kind.code(), length, buf),
+    }
+}
+
+fn status(line: &[u8], at: usize, text: &mut [u8], buf: &mut [u8], out: &mut [u8]) -> usize
+    requires { ⌜ Asked at (now line) (now text) (now out) × (length (now line) ≤ 2 * length (now buf)) ⌝ }
+    ensures { λ r. ⌜ r ≤ length (now (out .exit)) ⌝ }
+{
+    let fields = protocol::two_fields(line, at, text, buf);
+    if !fields.good {
+        return bad_request(out);
+    }
+    let n = fields.first;
+    let m = fields.second;
+    if BYTES < m {
+        return bad_request(out);
+    }
+    status_into(&text[..n], &mut buf[..m], out)
+}
+
+fn print_into(text: &[u8], buf: &mut [u8], out: &mut [u8]) -> usize
+    requires { ⌜ HasRoom (now out) × (length (now buf) ≤ 32768) ⌝ }
+    ensures { λ r. ⌜ r ≤ length (now (out .exit)) ⌝ }
+{
+    match printer::display(text, buf) {
+        Displayed::Refused(why) => turned_back(out, why, buf),
+        Displayed::Done(k) => done(out, k as u64, buf),
+    }
+}
+
+fn print(line: &[u8], at: usize, text: &mut [u8], buf: &mut [u8], out: &mut [u8]) -> usize
+    requires { ⌜ Asked at (now line) (now text) (now out) × (length (now line) ≤ 2 * length (now buf)) ⌝ }
+    ensures { λ r. ⌜ r ≤ length (now (out .exit)) ⌝ }
+{
+    let fields = protocol::two_fields(line, at, text, buf);
+    if !fields.good {
+        return bad_request(out);
+    }
+    let n = fields.first;
+    let m = fields.second;
+    if BYTES < m {
+        return bad_request(out);
+    }
+    print_into(&text[..n], &mut buf[..m], out)
+}
+
+fn pakete_into(text: &[u8], buf: &mut [u8], out: &mut [u8]) -> usize
+    requires { ⌜ HasRoom (now out) × (length (now buf) ≤ 32768) ⌝ }
+    ensures { λ r. ⌜ r ≤ length (now (out .exit)) ⌝ }
+{
+    match packages::pakete(text, buf) {
+        PaketeAnswer::Refused(why) => turned_back(out, why, buf),
+        PaketeAnswer::Rows(k) => done(out, k as u64, buf),
+    }
+}
+
+fn pakete(line: &[u8], at: usize, text: &mut [u8], buf: &mut [u8], out: &mut [u8]) -> usize
+    requires { ⌜ Asked at (now line) (now text) (now out) × (length (now line) ≤ 2 * length (now buf)) ⌝ }
+    ensures { λ r. ⌜ r ≤ length (now (out .exit)) ⌝ }
+{
+    let fields = protocol::two_fields(line, at, text, buf);
+    if !fields.good {
+        return bad_request(out);
+    }
+    let n = fields.first;
+    let m = fields.second;
+    if BYTES < m {
+        return bad_request(out);
+    }
+    pakete_into(&text[..n], &mut buf[..m], out)
+}
+
+fn eval(line: &[u8], at: usize, tree: &mut [u8], given: &mut [u8], out: &mut [u8]) -> usize
+    requires { ⌜ Asked at (now line) (now tree) (now out) × (length (now line) ≤ 2 * length (now given)) ⌝ }
+    ensures { λ r. ⌜ r ≤ length (now (out .exit)) ⌝ }
+{
+    let fields = protocol::two_fields(line, at, tree, given);
+    if !fields.good {
+        return bad_request(out);
+    }
+    let n = fields.first;
+    let m = fields.second;
+    match presence::eval(&tree[..n], &given[..m]) {
+        EvalAnswer::Refused(why) => refused(out, why),
+        EvalAnswer::Value(v) => figure(out, v.number() as u64),
+    }
+}
+
+fn truth(line: &[u8], at: usize, tree: &mut [u8], given: &mut [u8], out: &mut [u8]) -> usize
+    requires { ⌜ Asked at (now line) (now tree) (now out) × (length (now line) ≤ 2 * length (now given)) ⌝ }
+    ensures { λ r. ⌜ r ≤ length (now (out .exit)) ⌝ }
+{
+    let fields = protocol::two_fields(line, at, tree, given);
+    if !fields.good {
+        return bad_request(out);
+    }
+    let n = fields.first;
+    let m = fields.second;
+    match verdicts::truth(&tree[..n], &given[..m]) {
+        TruthAnswer::Refused(why) => refused(out, why),
+        TruthAnswer::Value(v) => figure(out, v.number() as u64),
+    }
+}
+
+fn tree(line: &[u8], at: usize, bytes: &mut [u8], out: &mut [u8]) -> usize
+    requires { ⌜ Asked at (now line) (now bytes) (now out) ⌝ }
+    ensures { λ r. ⌜ r ≤ length (now (out .exit)) ⌝ }
+{
+    let field = protocol::one_field(line, at, bytes);
+    if !field.good {
+        return bad_request(out);
+    }
+    let n = field.len;
+    if tree::is_tree(&bytes[..n]) {
+        return protocol::put(out, 0, b"ok\n");
+    }
+    refused(out, Refusal::NotATree)
+}
+
+fn violations_into(tree: &[u8], value: &[u8], buf: &mut [u8], out: &mut [u8]) -> usize
+    requires { ⌜ HasRoom (now out) × (length (now buf) ≤ 32768) ⌝ }
+    ensures { λ r. ⌜ r ≤ length (now (out .exit)) ⌝ }
+{
+    match verdicts::violations(tree, value, buf) {
+        ViolationsAnswer::Refused(why) => turned_back(out, why, buf),
+        ViolationsAnswer::Count(c) => done(out, c as u64, buf),
+    }
+}
+
+fn violations(
+    line: &[u8],
+    at: usize,
+    tree: &mut [u8],
+    value: &mut [u8],
+    buf: &mut [u8],
+    out: &mut [u8],
+) -> usize
+    requires { ⌜ Asked at (now line) (now tree) (now out) × ((length (now line) ≤ 2 * length (now value)) × (length (now line) ≤ 2 * length (now buf))) ⌝ }
+    ensures { λ r. ⌜ r ≤ length (now (out .exit)) ⌝ }
+{
+    let fields = protocol::three_fields(line, at, tree, value, buf);
+    if !fields.good {
+        return bad_request(out);
+    }
+    let n = fields.first;
+    let m = fields.second;
+    let k = fields.third;
+    if BYTES < k {
+        return bad_request(out);
+    }
+    violations_into(&tree[..n], &value[..m], &mut buf[..k], out)
+}
+
+// The requests about whole expressions.
+fn respond_tree(
+    word: &[u8],
+    line: &[u8],
+    at: usize,
+    first: &mut [u8],
+    second: &mut [u8],
+    third: &mut [u8],
+    out: &mut [u8],
+) -> usize
+    requires { ⌜ (at ≤ length (now line)) × ((length (now line) ≤ 65536) × Ready (now first) (now second) (now third) (now out)) ⌝ }
+    ensures { λ r. ⌜ r ≤ length (now (out .exit)) ⌝ }
+{
+    if text::same_bytes(word, b"expr") {
+        return expr(line, at, first, second, out);
+    }
+    if text::same_bytes(word, b"status") {
+        return status(line, at, first, second, out);
+    }
+    if text::same_bytes(word, b"tree") {
+        return tree(line, at, first, out);
+    }
+    if text::same_bytes(word, b"print") {
+        return print(line, at, first, second, out);
+    }
+    respond_judge(word, line, at, first, second, third, out)
+}
+
+// The requests that judge by a tree.
+fn respond_judge(
+    word: &[u8],
+    line: &[u8],
+    at: usize,
+    first: &mut [u8],
+    second: &mut [u8],
+    third: &mut [u8],
+    out: &mut [u8],
+) -> usize
+    requires { ⌜ (at ≤ length (now line)) × ((length (now line) ≤ 65536) × Ready (now first) (now second) (now third) (now out)) ⌝ }
+    ensures { λ r. ⌜ r ≤ length (now (out .exit)) ⌝ }
+{
+    if text::same_bytes(word, b"eval") {
+        return eval(line, at, first, second, out);
+    }
+    if text::same_bytes(word, b"pakete") {
+        return pakete(line, at, first, second, out);
+    }
+    if text::same_bytes(word, b"truth") {
+        return truth(line, at, first, second, out);
+    }
+    if text::same_bytes(word, b"violations") {
+        return violations(line, at, first, second, third, out);
+    }
+    bad_request(out)
+}
+
 // The answer to a line, at the start of out. A request has three fields at most, and a scratch
 // slice for each.
 fn respond(
@@ -215,7 +525,7 @@ fn respond(
     if text::same_bytes(word, b"registered") {
         return registered(line, at, first, out);
     }
-    bad_request(out)
+    respond_tree(word, line, at, first, second, third, out)
 }
 
 // Writes what waits.
