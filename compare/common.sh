@@ -9,7 +9,7 @@ in_cargo() {
 # Builds the comparison; where the original is missing, one line says what to set.
 build() {
     local log
-    if ! log=$(in_cargo build 2>&1); then
+    if ! log=$(in_cargo build "$@" 2>&1); then
         if grep -q '^error: compare@' <<<"$log"; then
             sed -n 's/^error: compare@[^:]*: /compare: /p' <<<"$log" >&2
         else
@@ -23,6 +23,14 @@ build() {
 find_tables() {
     if [ ! -x "$root/target/bin/tables" ]; then
         (cd "$root" && rt check tables) >&2 || exit 2
+    fi
+}
+
+# A static library; rt proves and writes it where it is missing.
+find_library() {
+    if [ ! -f "$root/target/staticlib/lib$1.a" ]; then
+        echo "target/staticlib/lib$1.a is not there: rt staticlib $1" >&2
+        (cd "$root" && rt staticlib "$1") >&2 || exit 2
     fi
 }
 

@@ -1,4 +1,4 @@
-//! Sends requests to `replay`, and holds its answers to the oracle's.
+//! Calls the library in process and sends the rest to `replay`; holds the answers to the oracle's.
 
 use std::collections::BTreeMap;
 use std::io::{BufRead, BufReader, Read, Write};
@@ -9,15 +9,18 @@ use std::sync::mpsc::{Receiver, SyncSender, sync_channel};
 use std::thread;
 use std::time::{Duration, Instant};
 
+use crate::calls;
 use crate::cases::{self, Cases};
 use crate::listed::Listed;
-use crate::oracle::{self, Origin};
-use crate::request::{BAD_REQUEST, Function};
+use crate::oracle::{self, Answer, Origin};
+use crate::request::{BAD_REQUEST, Function, write_hex, write_request};
 
 /// Requests that one process is given; it ends before the next begins, so that
 /// it may keep its answers back as long as it likes.
 const BATCH_BYTES: usize = 8 << 20;
 const PROGRESS: Duration = Duration::from_secs(4);
+/// Of so many calls in process one is sent to replay too.
+const ALSO_PIPED: u64 = 16;
 
 /// Requests in a row with the answers that are due, a line each.
 #[derive(Default)]
@@ -34,12 +37,16 @@ pub struct Plan<'a> {
     pub seed: u64,
     /// Whether to stop at the first difference.
     pub stop: bool,
-    pub listed: Listed,
+    /// Rounds of random expressions in process, after the cases by subject.
+    pub rounds: u64,
+    pub listed: Arc<Listed>,
 }
 
 #[derive(Default, Clone, Copy)]
 pub struct Count {
     pub cases: u64,
+    /// Of these, called in process.
+    pub called: u64,
     /// Of these, through the stand-in for `time`.
     pub timed: u64,
     pub differences: u64,
@@ -60,6 +67,8 @@ pub struct Outcome {
     pub smallest: BTreeMap<Function, Difference>,
     /// The function that was asked last.
     pub last: Option<Function>,
+    /// Trees of which demand 3 was run.
+    pub trees: u64,
     /// What went wrong with the process itself.
     pub failure: Option<String>,
 }
@@ -69,11 +78,53 @@ impl Outcome {
         let mut total = Count::default();
         for count in self.counts.values() {
             total.cases += count.cases;
+            total.called += count.called;
             total.timed += count.timed;
             total.differences += count.differences;
             total.listed += count.listed;
         }
         total
+    }
+
+    fn count(&mut self, function: Function, origin: Origin) -> &mut Count {
+        let count = self.counts.entry(function).or_default();
+        count.cases += 1;
+        count.timed += u64::from(origin == Origin::Time);
+        self.last = Some(function);
+        count
+    }
+
+    fn differs(&mut self, listed: &Listed, function: Function, difference: Difference) {
+        let count = self.counts.entry(function).or_default();
+        if listed.has(&difference.request, &difference.due, &difference.said) {
+            count.listed += 1;
+            return;
+        }
+        count.differences += 1;
+        let smallest = self.smallest.get(&function);
+        if smallest.is_none_or(|d| difference.request.len() < d.request.len()) {
+            self.smallest.insert(function, difference);
+        }
+    }
+
+    /// Takes over what another part of the run has counted.
+    fn add(&mut self, other: Outcome) {
+        for (function, more) in other.counts {
+            let count = self.counts.entry(function).or_default();
+            count.cases += more.cases;
+            count.called += more.called;
+            count.timed += more.timed;
+            count.differences += more.differences;
+            count.listed += more.listed;
+        }
+        for (function, difference) in other.smallest {
+            let smallest = self.smallest.get(&function);
+            if smallest.is_none_or(|d| difference.request.len() < d.request.len()) {
+                self.smallest.insert(function, difference);
+            }
+        }
+        self.trees += other.trees;
+        self.failure = self.failure.take().or(other.failure);
     }
 }
 
@@ -133,33 +184,50 @@ pub fn check_ends(replay: &Path) -> Result<(), String> {
 }
 
 /// Names the request over which the oracle panics.
-struct Asked<'a>(&'a [u8]);
+struct Asked<'a>(Function, &'a [&'a [u8]]);
 
 impl Drop for Asked<'_> {
     fn drop(&mut self) {
         if thread::panicking() {
-            eprintln!("the oracle was asked: {}", shown(self.0));
+            let mut line = Vec::new();
+            write_request(self.0, self.1, &mut line);
+            eprintln!("the oracle was asked: {}", shown(&line));
         }
     }
 }
 
-/// Fills batches and hands them on.
+/// Answers in process, or fills batches and hands them on.
 struct Producer {
     batch: Batch,
     to_comparer: SyncSender<Batch>,
     open: bool,
+    line: Vec<u8>,
+    caller: Caller,
 }
 
 impl Producer {
-    fn take(&mut self, function: Function, line: &[u8]) {
+    fn take(&mut self, function: Function, fields: &[&[u8]]) {
         if !self.open {
             return;
         }
-        let _asked = Asked(line);
+        let _asked = Asked(function, fields);
+        let called = function.exported();
+        if called {
+            self.open = self.caller.call(function, fields);
+        }
+        if called && self.caller.calls % ALSO_PIPED != 0 {
+            return;
+        }
+        self.line.clear();
+        write_request(function, fields, &mut self.line);
+        self.pipe(function);
+    }
+
+    fn pipe(&mut self, function: Function) {
         let batch = &mut self.batch;
-        let origin = oracle::answer(line, &mut batch.due);
+        let origin = oracle::answer(&self.line, &mut batch.due);
         batch.due.push(b'\n');
-        batch.requests.extend_from_slice(line);
+        batch.requests.extend_from_slice(&self.line);
         batch.requests.push(b'\n');
         let request = function != Function::Protocol;
         assert!(!request || origin != Origin::Protocol, "a generator wrote no request");
@@ -175,24 +243,138 @@ impl Producer {
     }
 }
 
+/// Calls the library and compares at once.
+struct Caller {
+    outcome: Outcome,
+    calls: u64,
+    stop: bool,
+    listed: Arc<Listed>,
+    last_report: Instant,
+}
+
+impl Caller {
+    fn new(listed: Arc<Listed>, stop: bool) -> Self {
+        Self { outcome: Outcome::default(), calls: 0, stop, listed, last_report: Instant::now() }
+    }
+
+    /// Asks both sides; whether to go on.
+    fn call(&mut self, function: Function, fields: &[&[u8]]) -> bool {
+        let (due, origin) = oracle::ask(function, fields);
+        let said = calls::ask(function, fields);
+        self.calls += 1;
+        self.outcome.count(function, origin).called += 1;
+        let before = if function.lends() { fields[fields.len() - 1] } else { &[] };
+        if !calls::agrees(&said, &due, before) {
+            let difference = difference(function, fields, &due, &said, before);
+            self.outcome.differs(&self.listed, function, difference);
+            return !(self.stop && self.outcome.total().differences > 0);
+        }
+        true
+    }
+
+    fn report(&mut self, what: &str) {
+        if self.calls % 4096 == 0 && self.last_report.elapsed() > PROGRESS {
+            self.last_report = Instant::now();
+            let total = self.outcome.total();
+            println!("{what}: {} cases in process, {} differences", total.cases, total.differences);
+        }
+    }
+}
+
+/// A call that is answered differently, in the words of the line protocol.
+fn difference(
+    function: Function,
+    fields: &[&[u8]],
+    due: &Answer,
+    said: &calls::Said,
+    before: &[u8],
+) -> Difference {
+    let mut request = Vec::new();
+    write_request(function, fields, &mut request);
+    let (words, mut lent) = match due {
+        Ok((words, result)) => (words.clone(), result.clone()),
+        Err(number) => (format!("refused {number}"), Vec::new()),
+    };
+    lent.extend_from_slice(&before[lent.len().min(before.len())..]);
+    let line = |words: &str, lent: &[u8]| {
+        let mut line = words.as_bytes().to_vec();
+        if function.lends() {
+            line.push(b' ');
+            write_hex(lent, &mut line);
+        }
+        line
+    };
+    Difference { request, due: line(&words, &lent), said: line(&said.words, &said.lent) }
+}
+
 /// Runs the comparison to its end, or to the first difference if the plan says so.
 pub fn run(plan: &Plan, known: &[Function]) -> Outcome {
     let (to_comparer, batches) = sync_channel(1);
-    let (long, seed, known) = (plan.long, plan.seed, known.to_vec());
+    let (long, seed, known, listed, stop) = (plan.long, plan.seed, known.to_vec(), plan.listed.clone(), plan.stop);
     let producer = thread::spawn(move || {
-        let mut producer = Producer { batch: Batch::default(), to_comparer, open: true };
-        let mut take = |function, line: &[u8]| producer.take(function, line);
-        cases::all(&mut Cases::new(long, seed, &known, &mut take));
+        let caller = Caller::new(listed, stop);
+        let mut producer = Producer { batch: Batch::default(), to_comparer, open: true, line: Vec::new(), caller };
+        let mut take = |function, fields: &[&[u8]]| {
+            producer.take(function, fields);
+            producer.caller.report("cases by subject");
+        };
+        let mut cases = Cases::new(long, seed, &known, &mut take);
+        cases::all(&mut cases);
+        let trees = cases.trees;
         producer.send();
+        producer.caller.outcome.trees = trees;
+        producer.caller.outcome
     });
     let mut comparer = Comparer { plan, outcome: Outcome::default(), last_report: Instant::now() };
     let failure = comparer.compare(batches).err();
     let mut outcome = comparer.outcome;
     outcome.failure = failure;
-    if outcome.failure.is_none() && producer.join().is_err() {
-        outcome.failure = Some("the oracle failed; its own message stands above".to_owned());
+    match producer.join() {
+        Ok(called) => outcome.add(called),
+        Err(_) => outcome.failure = outcome.failure.or(Some("the oracle failed; its own message stands above".to_owned())),
+    }
+    if plan.rounds > 0 && outcome.failure.is_none() && outcome.total().differences == 0 {
+        outcome.add(many(plan));
     }
     outcome
+}
+
+/// Random expressions, statuses and trees in process, a thread and a seed for each processor.
+fn many(plan: &Plan) -> Outcome {
+    let threads = thread::available_parallelism().map_or(1, |n| n.get() as u64);
+    let (rounds, stop) = (plan.rounds / threads, plan.stop);
+    let start = |number: u64| {
+        let (seed, listed) = (plan.seed * 1_000 + number, plan.listed.clone());
+        println!("random expressions, statuses and trees: seed {seed}, {rounds} rounds");
+        thread::spawn(move || called_rounds(seed, rounds, listed, stop))
+    };
+    let started: Vec<_> = (1..=threads).map(start).collect();
+    let mut outcome = Outcome::default();
+    for thread in started {
+        match thread.join() {
+            Ok(called) => outcome.add(called),
+            Err(_) => outcome.failure = Some("the oracle failed; its own message stands above".to_owned()),
+        }
+    }
+    outcome
+}
+
+fn called_rounds(seed: u64, rounds: u64, listed: Arc<Listed>, stop: bool) -> Outcome {
+    let known: Vec<Function> = Function::ALL.into_iter().filter(|f| f.exported()).collect();
+    let mut caller = Caller::new(listed, stop);
+    let mut open = true;
+    let mut take = |function, fields: &[&[u8]]| {
+        if open {
+            let _asked = Asked(function, fields);
+            open = caller.call(function, fields);
+            caller.report(&format!("seed {seed}"));
+        }
+    };
+    let mut cases = Cases::new(true, seed, &known, &mut take);
+    cases::many::many(&mut cases, rounds);
+    let trees = cases.trees;
+    caller.outcome.trees = trees;
+    caller.outcome
 }
 
 struct Comparer<'a> {
@@ -231,38 +413,17 @@ impl Comparer<'_> {
             if read.map_err(|e| e.to_string())? == 0 {
                 return Err(format!("replay ended before it answered {}", shown(request)));
             }
-            self.count(*function, *origin);
+            self.outcome.count(*function, *origin);
             if said.strip_suffix(b"\n") != Some(due) {
-                self.differs(*function, request, due, &said);
+                let said = said.strip_suffix(b"\n").unwrap_or(&said);
+                let [request, due, said] = [request, due, said].map(<[u8]>::to_vec);
+                self.outcome.differs(&self.plan.listed, *function, Difference { request, due, said });
             }
         }
         let mut rest = Vec::new();
         answers.read_to_end(&mut rest).map_err(|e| e.to_string())?;
         ended(&mut child)?;
         if rest.is_empty() { Ok(()) } else { Err("replay wrote more lines than it was asked".into()) }
-    }
-
-    fn count(&mut self, function: Function, origin: Origin) {
-        let count = self.outcome.counts.entry(function).or_default();
-        count.cases += 1;
-        count.timed += u64::from(origin == Origin::Time);
-        self.outcome.last = Some(function);
-    }
-
-    fn differs(&mut self, function: Function, request: &[u8], due: &[u8], said: &[u8]) {
-        let said = said.strip_suffix(b"\n").unwrap_or(said);
-        let listed = self.plan.listed.has(request, due, said);
-        let count = self.outcome.counts.entry(function).or_default();
-        if listed {
-            count.listed += 1;
-            return;
-        }
-        count.differences += 1;
-        let smallest = self.outcome.smallest.get(&function);
-        if smallest.is_none_or(|d| request.len() < d.request.len()) {
-            let [request, due, said] = [request, due, said].map(<[u8]>::to_vec);
-            self.outcome.smallest.insert(function, Difference { request, due, said });
-        }
     }
 }
 

@@ -11,6 +11,9 @@ pub mod standin {
     pub mod time;
 }
 
+#[cfg(feature = "bench")]
+pub mod bench;
+pub mod calls;
 pub mod cases;
 pub mod driver;
 pub mod list;

@@ -58,6 +58,12 @@ const EXAMPLES: &str = "document 01's examples and bounds";
 const LIMITS: &str = "limits and lines that are no requests";
 const SAMPLE: &str = "sample of the short comparison";
 
+fn line(function: Function, fields: &[&[u8]]) -> Vec<u8> {
+    let mut line = Vec::new();
+    request::write_request(function, fields, &mut line);
+    line
+}
+
 fn entry(section: &'static str, function: Function, request: &[u8]) -> Entry {
     let mut answer = Vec::new();
     let origin = oracle::answer(request, &mut answer);
@@ -81,7 +87,7 @@ fn paper_entries(known: &[Function]) -> Result<Vec<Entry>, String> {
 
 fn limit_entries(known: &[Function]) -> Vec<Entry> {
     let mut entries = Vec::new();
-    let mut take = |function, line: &[u8]| entries.push(entry(LIMITS, function, line));
+    let mut take = |function, fields: &[&[u8]]| entries.push(entry(LIMITS, function, &line(function, fields)));
     let mut cases = Cases::new(false, 1, known, &mut take);
     cases::limits::limits(&mut cases);
     cases::protocol::requestless(&mut cases);
@@ -116,15 +122,16 @@ fn share((_, condition, _): &Class) -> usize {
 /// Of each class of the short comparison the requests with the smallest hashes.
 fn sampled_entries(known: &[Function]) -> Vec<Entry> {
     let mut classes: BTreeMap<_, BTreeMap<u64, Entry>> = BTreeMap::new();
-    let mut take = |function, line: &[u8]| {
+    let mut take = |function, fields: &[&[u8]]| {
+        let line = line(function, fields);
         if function == Function::Protocol || line.len() > LONGEST_SAMPLE {
             return;
         }
-        let entry = entry(SAMPLE, function, line);
-        let class = class(function, line, &entry.answer);
+        let entry = entry(SAMPLE, function, &line);
+        let class = class(function, &line, &entry.answer);
         let most = share(&class);
         let kept = classes.entry(class).or_default();
-        kept.insert(hash(line), entry);
+        kept.insert(hash(&line), entry);
         if kept.len() > most {
             kept.pop_last();
         }

@@ -1,13 +1,17 @@
-//! `compare run [long]`, `compare list [FUNCTION...]`, `compare known`.
+//! `compare run [long]`, `compare list [FUNCTION...]`, `compare known`, `compare bench`.
 
 use std::env;
 use std::path::{Path, PathBuf};
 use std::process::ExitCode;
+use std::sync::Arc;
 
 use compare::driver::{self, Outcome, Plan, shown};
 use compare::listed::Listed;
 use compare::request::Function;
 use compare::{list, request, tables};
+
+/// Random expressions in the long comparison.
+const LONG_ROUNDS: u64 = 8_000_000;
 
 fn main() -> ExitCode {
     let words: Vec<String> = env::args().skip(1).collect();
@@ -17,6 +21,8 @@ fn main() -> ExitCode {
         ["run", "long"] => run(true),
         ["list", ref rest @ ..] => make_list(rest),
         ["known"] => print_known(),
+        #[cfg(feature = "bench")]
+        ["bench"] => compare::bench::run(&root().join("compare/bench.txt")),
         _ => Err("run [long] | list [FUNCTION...] | known".into()),
     };
     match done {
@@ -38,16 +44,20 @@ fn replay() -> PathBuf {
     env::var_os("REPLAY").map_or_else(|| root().join("target/bin/replay"), PathBuf::from)
 }
 
-fn seed() -> Result<u64, String> {
-    let seed = env::var("SEED").unwrap_or_else(|_| "1".to_owned());
-    seed.parse().map_err(|_| format!("SEED is {seed:?}, not a number"))
+/// A variable's number, else the default.
+fn number(name: &str, default: u64) -> Result<u64, String> {
+    match env::var(name) {
+        Ok(text) => text.parse().map_err(|_| format!("{name} is {text:?}, not a number")),
+        Err(_) => Ok(default),
+    }
 }
 
 fn run(long: bool) -> Result<bool, String> {
     let replay = replay();
     let listed = Listed::from_file(&root().join("docs/DIFFERENCES.md"));
     let stop = env::var_os("STOP_AT_FIRST").is_some();
-    let plan = Plan { replay: &replay, long, seed: seed()?, stop, listed };
+    let rounds = number("ROUNDS", if long { LONG_ROUNDS } else { 0 })?;
+    let plan = Plan { replay: &replay, long, seed: number("SEED", 1)?, stop, rounds, listed: Arc::new(listed) };
     println!("replay {}, seed {}", replay.display(), plan.seed);
     let asked = tables::compare(&root().join("target/bin/tables"))?;
     println!("white space and status words: {asked} questions, no difference");
@@ -72,11 +82,12 @@ fn report(outcome: &Outcome, known: &[Function]) {
         println!("  oracle  {}", shown(&difference.due));
         println!("  replay  {}", shown(&difference.said));
     }
-    println!("\n{:<11}{:>12}{:>18}{:>13}", "function", "cases", "of them by time", "differences");
+    println!("\n{:<11}{:>12}{:>13}{:>9}{:>13}", "function", "cases", "in process", "by time", "differences");
     for (function, count) in &outcome.counts {
         let word = function.word();
-        println!("{word:<11}{:>12}{:>18}{:>13}", count.cases, count.timed, count.differences);
+        println!("{word:<11}{:>12}{:>13}{:>9}{:>13}", count.cases, count.called, count.timed, count.differences);
     }
+    println!("demand 3 on both sides: {} trees", outcome.trees);
     let missing: Vec<&str> = Function::ALL.iter().filter(|f| !known.contains(f)).map(|f| f.word()).collect();
     if !missing.is_empty() {
         println!("left out, as replay does not know them: {}", missing.join(" "));

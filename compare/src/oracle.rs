@@ -52,20 +52,39 @@ pub enum Origin {
 }
 
 /// An answer: words, and for a lent buffer what is written into it.
-type Answer = Result<(String, Vec<u8>), u8>;
+pub type Answer = Result<(String, Vec<u8>), u8>;
 
 /// Answers a request line.
 pub fn answer(line: &[u8], out: &mut Vec<u8>) -> Origin {
-    let Some((function, mut fields)) = request::parse(line) else {
+    let Some((function, fields)) = request::parse(line) else {
         out.extend_from_slice(BAD_REQUEST.as_bytes());
         return Origin::Protocol;
     };
-    let lent = if function.lends() { fields.pop() } else { None };
-    let asked = time::asked();
-    let answer = within(answer_fields(function, &fields), lent.as_deref());
-    let origin = origin(function, &fields, &answer, time::asked() > asked);
-    write_answer(answer, lent, out);
+    let fields: Vec<&[u8]> = fields.iter().map(Vec::as_slice).collect();
+    let (answer, origin) = ask(function, &fields);
+    let lent = if function.lends() { fields.last() } else { None };
+    write_answer(answer, lent.map(|lent| lent.to_vec()), out);
     origin
+}
+
+/// The answer to a function, and whose it is; a lent buffer is the last field.
+pub fn ask(function: Function, fields: &[&[u8]]) -> (Answer, Origin) {
+    let (fields, lent) = match fields.split_last() {
+        Some((lent, fields)) if function.lends() => (fields, Some(*lent)),
+        _ => (fields, None),
+    };
+    let asked = time::asked();
+    let answer = within(answer_fields(function, fields), lent);
+    let origin = origin(function, fields, &answer, time::asked() > asked);
+    (answer, origin)
+}
+
+/// Whether the original judges a tree and its flat tree alike (demand 3).
+pub fn judged_alike(a: &Expr, b: &Expr, answers: &[u8], value: &str) -> bool {
+    evaluated(a, answers) == evaluated(b, answers)
+        && formatbedingung::truth(a, value) == formatbedingung::truth(b, value)
+        && violations(a, value) == violations(b, value)
+        && pakete(a) == pakete(b)
 }
 
 /// Refusal 14 for a result that the lent buffer cannot hold.
@@ -86,21 +105,21 @@ fn write_answer(answer: Answer, lent: Option<Vec<u8>>, out: &mut Vec<u8>) {
     }
 }
 
-fn origin(function: Function, fields: &[Vec<u8>], answer: &Answer, timed: bool) -> Origin {
-    let shut_off = |text: &Vec<u8>| IDENTIFIERS.iter().any(|id| id.as_bytes() == *text);
+fn origin(function: Function, fields: &[&[u8]], answer: &Answer, timed: bool) -> Origin {
+    let shut_off = |text: &[u8]| IDENTIFIERS.iter().any(|id| id.as_bytes() == text);
     let by_text = matches!(function, Function::Evaluate | Function::Registered);
     match answer {
         Err(TOO_LONG..=WRONG_ANSWERS) => Origin::Paper,
         _ if function == Function::Tree => Origin::Paper,
-        _ if by_text && shut_off(&fields[0]) => Origin::Paper,
+        _ if by_text && shut_off(fields[0]) => Origin::Paper,
         _ if timed => Origin::Time,
         _ => Origin::Rust,
     }
 }
 
-fn answer_fields(function: Function, fields: &[Vec<u8>]) -> Answer {
-    let first = fields[0].as_slice();
-    let second = fields.get(1).map_or(&[][..], Vec::as_slice);
+fn answer_fields(function: Function, fields: &[&[u8]]) -> Answer {
+    let first = fields[0];
+    let second = fields.get(1).copied().unwrap_or_default();
     match function {
         Function::Kind => plain(kind(first)?),
         Function::Paket => Ok((paket(first)?, Vec::new())),
@@ -267,7 +286,10 @@ fn answered(byte: u8) -> Result<Truth, EvalError> {
 }
 
 fn presence(tree: &[u8], answers: &[u8]) -> Result<u8, u8> {
-    let expr = expr(tree)?;
+    evaluated(&expr(tree)?, answers)
+}
+
+fn evaluated(expr: &Expr, answers: &[u8]) -> Result<u8, u8> {
     let cited = expr.cited();
     if answers.len() != cited.len() || answers.iter().any(|a| *a > 4) {
         return Err(WRONG_ANSWERS);

@@ -72,6 +72,11 @@ impl Function {
         matches!(self, Expr | Status | Print | Pakete | Violations)
     }
 
+    /// Whether the library for callers exports it, so that it is called in process.
+    pub fn exported(self) -> bool {
+        matches!(self, Expr | Status | Eval | Truth | Violations)
+    }
+
     /// A request that is answered by every replay that knows the function.
     pub fn probe(self) -> Vec<u8> {
         let mut line = Vec::new();
@@ -84,8 +89,12 @@ impl Function {
     }
 }
 
-/// Writes a request without its line feed.
+/// Writes a request without its line feed; the field of `Protocol` is the line itself.
 pub fn write_request(function: Function, fields: &[&[u8]], line: &mut Vec<u8>) {
+    if function == Protocol {
+        line.extend_from_slice(fields[0]);
+        return;
+    }
     line.extend_from_slice(function.word().as_bytes());
     for field in fields {
         line.push(b' ');

@@ -1,9 +1,9 @@
 //! Texts, values, citations, parentheses and buffers one under, at and over each limit.
 
 use super::Cases;
-use crate::oracle::{LONGEST_TEXT, LONGEST_VALUE, MOST_OPEN};
+use crate::oracle::{LONGEST_TEXT, LONGEST_VALUE, MOST_OPEN, read};
 use crate::request::Function::{self, *};
-use crate::tree::{MOST_CITATIONS, MOST_TEXT_BYTES, encode_parts};
+use crate::tree::{MOST_CITATIONS, MOST_TEXT_BYTES, encode, encode_parts};
 
 pub fn limits(cases: &mut Cases) {
     for function in [Kind, Paket, Registered] {
@@ -15,6 +15,7 @@ pub fn limits(cases: &mut Cases) {
     value_limits(cases);
     reading_limits(cases);
     tree_limits(cases);
+    largest(cases);
 }
 
 fn around(limit: usize) -> [usize; 3] {
@@ -90,6 +91,45 @@ pub fn limit_texts() -> Vec<String> {
     texts
 }
 
+/// The longest print, 4,343 bytes: 256 citations of 8 bytes, And and Or in turn, each in the other's parentheses.
+pub fn longest_print() -> String {
+    let operand = |i: usize| format!("[1234567{}] {} (", i % 10, ["∧", "∨"][i % 2]);
+    let most = MOST_CITATIONS - 2;
+    (0..most).map(operand).collect::<String>() + "[12345678] ⊻ [12345678]" + &")".repeat(most)
+}
+
+/// The largest results, each into a buffer that is one byte short, exact, and one byte longer.
+fn largest(cases: &mut Cases) {
+    let text = longest_print();
+    let tree = encode(&read(&text).expect("within the limits"));
+    let padded = text.clone() + &" ".repeat(LONGEST_TEXT - text.len());
+    for length in around(tree.len()) {
+        cases.ask_lent(Expr, &[text.as_bytes()], length);
+    }
+    for length in around(text.len()) {
+        cases.ask_lent(Print, &[&tree], length);
+    }
+    cases.ask_lent(Expr, &[padded.as_bytes()], tree.len());
+    cases.ask_lent(Expr, &[(padded + " ").as_bytes()], 3);
+    cases.ask(Cited, &[&tree]);
+    cases.ask(Eval, &[&tree, &[2; MOST_CITATIONS]]);
+    for open in [MOST_OPEN, MOST_OPEN + 1] {
+        let text = format!("{}[1]{}", "(".repeat(open), ")".repeat(open));
+        cases.ask_lent(Expr, &[text.as_bytes()], 23);
+    }
+    for length in around(23) {
+        cases.ask_lent(Expr, &[b"[1]"], length);
+    }
+    let violated = encode(&read(&"[903]".repeat(MOST_CITATIONS)).expect("within the limits"));
+    let pakete = encode(&read(&"[1P]".repeat(MOST_CITATIONS)).expect("within the limits"));
+    for length in around(2 * MOST_CITATIONS) {
+        cases.ask_lent(Violations, &[&violated, b"0"], length);
+    }
+    for length in [19 * MOST_CITATIONS - 1, 19 * MOST_CITATIONS] {
+        cases.ask_lent(Pakete, &[&pakete], length);
+    }
+}
+
 /// Trees one under, at and over the limits on citations and their bytes.
 fn tree_limits(cases: &mut Cases) {
     for count in around(MOST_CITATIONS) {
@@ -120,4 +160,17 @@ fn tree_of(cases: &mut Cases, lengths: &[usize]) {
     cases.ask_lent(Print, &[&tree], 2);
     cases.ask(Eval, &[&tree, &vec![2; lengths.len()]]);
     cases.ask(Truth, &[&tree, b"1"]);
+}
+
+#[cfg(test)]
+mod tests {
+    use super::*;
+
+    #[test]
+    fn largest_results() {
+        let text = longest_print();
+        let expr = read(&text).expect("within the limits");
+        assert_eq!((text.len(), encode(&expr).len()), (4_343, 6_150));
+        assert_eq!(expr.to_string(), text);
+    }
 }

@@ -3,6 +3,7 @@
 pub mod formats;
 pub mod kinds;
 pub mod limits;
+pub mod many;
 pub mod numbers;
 pub mod pakete;
 pub mod protocol;
@@ -13,25 +14,24 @@ pub mod trees;
 pub mod utf8;
 
 use crate::random::Random;
-use crate::request::{Function, write_request};
+use crate::request::Function;
+
+/// Takes a function and its fields; for `Protocol` the one field is the whole line.
+pub type Take<'a> = dyn FnMut(Function, &[&[u8]]) + 'a;
 
 /// Where the generators leave their requests.
 pub struct Cases<'a> {
     pub long: bool,
     pub random: Random,
+    /// Trees of which demand 3 was run on the original.
+    pub trees: u64,
     known: &'a [Function],
-    take: &'a mut dyn FnMut(Function, &[u8]),
-    line: Vec<u8>,
+    take: &'a mut Take<'a>,
 }
 
 impl<'a> Cases<'a> {
-    pub fn new(
-        long: bool,
-        seed: u64,
-        known: &'a [Function],
-        take: &'a mut dyn FnMut(Function, &[u8]),
-    ) -> Self {
-        Self { long, random: Random::new(seed), known, take, line: Vec::new() }
+    pub fn new(long: bool, seed: u64, known: &'a [Function], take: &'a mut Take<'a>) -> Self {
+        Self { long, random: Random::new(seed), trees: 0, known, take }
     }
 
     pub fn knows(&self, function: Function) -> bool {
@@ -52,14 +52,12 @@ impl<'a> Cases<'a> {
         if !self.knows(function) {
             return;
         }
-        self.line.clear();
-        write_request(function, fields, &mut self.line);
-        (self.take)(function, &self.line);
+        (self.take)(function, fields);
     }
 
     /// A line as it stands.
     pub fn ask_line(&mut self, line: &[u8]) {
-        (self.take)(Function::Protocol, line);
+        (self.take)(Function::Protocol, &[line]);
     }
 
     /// Asks with a lent buffer of the length, filled with a pattern.

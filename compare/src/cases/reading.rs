@@ -37,7 +37,7 @@ pub fn reading(cases: &mut Cases) {
 }
 
 /// Reads a text as an expression and after a status word, into one buffer each.
-fn ask_near(cases: &mut Cases, text: &str) {
+pub fn ask_near(cases: &mut Cases, text: &str) {
     let length = result_length(text);
     cases.ask_lent_near(Expr, &[text.as_bytes()], length);
     let word = *cases.random.pick(&STATUS_WORDS);
@@ -91,7 +91,7 @@ fn status_words(cases: &mut Cases) {
 }
 
 /// Writes an expression of at most so many citations, oddly spaced.
-fn write_chain(cases: &mut Cases, left: &mut usize, depth: usize, out: &mut String) {
+pub fn write_chain(cases: &mut Cases, left: &mut usize, depth: usize, out: &mut String) {
     loop {
         write_run(cases, left, depth, out);
         if *left == 0 || cases.random.one_in(3) {
@@ -123,7 +123,7 @@ fn write_run(cases: &mut Cases, left: &mut usize, depth: usize, out: &mut String
 }
 
 /// A text with a few characters left out, doubled or replaced.
-fn damaged(cases: &mut Cases, text: &str) -> String {
+pub fn damaged(cases: &mut Cases, text: &str) -> String {
     let mut characters: Vec<char> = text.chars().collect();
     for _ in 0..=cases.random.below(2) {
         let place = cases.random.below(characters.len().max(1));

@@ -3,7 +3,7 @@
 use std::collections::{HashMap, HashSet};
 
 use super::Cases;
-use crate::oracle::{LONGEST_TEXT, LONGEST_VALUE, read};
+use crate::oracle::{LONGEST_TEXT, LONGEST_VALUE, judged_alike, read};
 use crate::original::conditions::Expr;
 use crate::random::hash;
 use crate::request::Function::{self, *};
@@ -11,7 +11,7 @@ use crate::tree::{NODE_ROW, encode, encode_parts, flat, node};
 
 pub const TREE_FUNCTIONS: [Function; 7] = [Tree, Print, Cited, Eval, Pakete, Truth, Violations];
 
-const VALUES: [&str; 14] = [
+pub const VALUES: [&str; 14] = [
     "0", "1", "5", "-1", "0.5", "99999", "1000", "", "A", "202603292200+00", "202612010500+00", "1-01-1",
     "+49", "x@y.z",
 ];
@@ -31,6 +31,7 @@ impl Judged {
             return;
         }
         if let Ok(expr) = read(text) {
+            assert_eq!(read(&expr.to_string()), Ok(flat(&expr)), "printed, then read: {text:?}");
             self.judge(cases, &expr);
         }
     }
@@ -48,6 +49,8 @@ impl Judged {
         cases.ask_lent_near(Expr, &[print.as_bytes()], flat_bytes.len());
         let answers = answers(cases, &expr.cited());
         let value = *cases.random.pick(&VALUES);
+        assert!(judged_alike(expr, &flat, &answers, value), "a tree and its flat tree: {print}");
+        cases.trees += 1;
         ask_tree(cases, &bytes, &answers, value.as_bytes(), expr.cited().len());
         if flat_bytes != bytes {
             cases.ask_lent_near(Print, &[&flat_bytes], print.len());
@@ -68,7 +71,7 @@ fn ask_tree(cases: &mut Cases, tree: &[u8], answers: &[u8], value: &[u8], citati
 }
 
 /// Random answers, equal for equal texts; 4 is rare.
-fn answers(cases: &mut Cases, cited: &[&str]) -> Vec<u8> {
+pub fn answers(cases: &mut Cases, cited: &[&str]) -> Vec<u8> {
     let mut by_text = HashMap::new();
     let most = if cases.random.one_in(3) { 5 } else { 4 };
     let mut answer = |text| *by_text.entry(text).or_insert_with(|| cases.random.below(most) as u8);
@@ -226,7 +229,7 @@ fn buffers(cases: &mut Cases) {
 }
 
 /// A tree of any shape, also one that no text reads to.
-fn random_tree(cases: &mut Cases, leaves: usize) -> Expr {
+pub fn random_tree(cases: &mut Cases, leaves: usize) -> Expr {
     if leaves < 2 {
         return Expr::Cond(cases.random.pick(&CITED).to_string());
     }

@@ -164,6 +164,13 @@ mutual
       rw (length-append sep (operand inBytes e ++ links inBytes sep es), length-append (operand inBytes e) (links inBytes sep es), room-append)
       (omega (arith, operand-size e (r .0), links-size sep k es (r .1)))
 
+-- a print has at most nine bytes more for each citation than there are in them
+pub print-room : (e : Expr) → Wide e → length (printed e) + 7 ≤ length (concat (citations e)) + 9 * count e
+unfolding print citations room
+print-room (cite t) r = cite-room t
+print-room (Then es) r = omega (arith, listed-size (inBytes .gap) (omega arith) es (r .0) (r .1))
+print-room (join o es) r = omega (arith, listed-size (signBytes o) (sign-size o) es (r .0) (r .1))
+
 -- a print is at most 4,343 bytes long
 pub print-short : (e : Expr) → Fits e → length (printed e) ≤ 4343
 unfolding print citations room

@@ -7,6 +7,8 @@ use Rattle.grammar.specs.Expr.{Expr, Exprs, cite, Then, join, none, more
 use Rattle.grammar.specs.Reading.{Fits}
 use Rattle.grammar.specs.Rows.{many, rows, span, spans, rows-span}
 use Rattle.grammar.specs.Bytes.{headSize, rowSize, citeSize, bytesOf}
+use Rattle.grammar.specs.Bounds.{print-room}
+use Rattle.grammar.specs.Print.{printed}
 use Rattle.grammar.specs.Shape.{many-two}
 use Rattle.grammar.specs.Trees.{packed-length}
 
@@ -35,3 +37,20 @@ few-nodes e f = omega (arith, span-bound e (f .wide), f .few)
 -- at most 6,150 bytes
 pub few-bytes : (e : Expr) → Fits e → length (bytesOf e) ≤ 6150
 few-bytes e f = omega (arith, bytes-length e, few-nodes e f, f .few, f .small)
+
+mutual
+  unfolding span citations
+
+  -- a tree has a row for each citation
+  pub count-span : (e : Expr) → count e ≤ span e
+  count-span (cite t) = omega arith
+  count-span (Then es) = omega (arith, counts-spans es)
+  count-span (join o es) = omega (arith, counts-spans es)
+
+  counts-spans : (es : Exprs) → length (citationsOf es) ≤ spans es
+  counts-spans none = omega arith
+  counts-spans (more e es) = omega (arith, count-span e, counts-spans es, length-append (citations e) (citationsOf es))
+
+-- a print is no longer than its tree
+pub print-within : (e : Expr) → Wide e → length (printed e) ≤ length (bytesOf e)
+print-within e w = omega (arith, print-room e w, bytes-length e, count-span e)

@@ -28,6 +28,9 @@ ghost use Rattle.presence.specs.Tallies.{noTally, added, anded, ored, xo
 // The most node rows that a tree has.
 const NODE_LIMIT: usize = 511;
 
+// So many rows are few.
+const FEW_ROWS: usize = 32;
+
 // The answer byte of a citation whose evaluation failed.
 const FAILED: u8 = 4;
 
@@ -322,14 +325,26 @@ fn eval_row(tree: &[u8], answers: &[u8], marks: &[u8], row: usize) -> EvalAnswer
     EvalAnswer::Value(tally.rule(kind))
 }
 
-// The presence of a tree whose answers fit: 7 and 8 as met.
+// Marks the rows, and evaluates the tree.
+fn eval_marked(tree: &[u8], answers: &[u8], marks: &mut [u8]) -> EvalAnswer
+    requires { ⌜ (isTree (now tree) ≡ true) × (answersFit (treeAt (now tree) 0) (now answers) ≡ true) × (nodes (now tree) ≤ length (now marks)) ⌝ }
+    ensures { λ r. ⌜ evalSaid r ≡ presenceBy (now (answers .entry)) (treeAt (now (tree .entry)) 0) ⌝ }
+{
+    mark_rows(tree, marks);
+    eval_row(tree, answers, marks, 0)
+}
+
+// The presence of a tree whose answers fit: 7 and 8 as met. The marks of few rows stand in a scratch that is small.
 pub fn eval_tree(tree: &[u8], answers: &[u8]) -> EvalAnswer
     requires { ⌜ (isTree (now tree) ≡ true) × (answersFit (treeAt (now tree) 0) (now answers) ≡ true) ⌝ }
     ensures { λ r. ⌜ evalSaid r ≡ presenceBy (now (answers .entry)) (treeAt (now (tree .entry)) 0) ⌝ }
 {
+    if node_count(tree) <= FEW_ROWS {
+        let mut marks = [0u8; FEW_ROWS];
+        return eval_marked(tree, answers, &mut marks);
+    }
     let mut marks = [0u8; NODE_LIMIT];
-    mark_rows(tree, &mut marks);
-    eval_row(tree, answers, &marks, 0)
+    eval_marked(tree, answers, &mut marks)
 }
 
 // Presence from tree bytes and answer bytes: 15, 16, then 7 and 8 as met.

@@ -8,14 +8,25 @@ use lib.ListN.{length, drop}
 use Rattle.refusal.specs.Result.{ok, refuse, map-ok, then}
 use Rattle.refusal.specs.declared.Refusal.the-variants.{NotATree, NoRoom}
 use Rattle.grammar.specs.Print.{printed}
-use Rattle.grammar.specs.Bytes.{isTree, treeAt}
+use Rattle.grammar.specs.Expr.{concat}
+use Rattle.grammar.specs.Bytes.{isTree, treeAt, cites, citesAt, textsAt, textsIn}
 use Rattle.grammar.specs.Outcome.{answerOf, writtenOf, withLength, displayAnswer, answer-fits, answer-short, written-fits, written-short}
-use Rattle.grammar.specs.Theorems.{print-short}
+use Rattle.grammar.specs.Theorems.{print-short, bytes-length}
+use Rattle.grammar.specs.Sizes.{print-within}
+use Rattle.grammar.specs.Trees.{tests}
+use Rattle.tree.proofs.Cites.{texts-stand}
 use Rattle.tree.proofs.Walks.{root, no-tree}
 
 -- a print is short enough for the scratch
 pub short : (b : List ℕ) → isTree b ≡ true → length (printed (treeAt b 0)) ≤ 4343
 short b h = print-short (treeAt b 0) (root b h .fits)
+
+-- a print is no longer than its tree
+pub within : (b : List ℕ) → isTree b ≡ true → length (printed (treeAt b 0)) ≤ length b
+within b h =
+    let r = root b h in
+    let x = texts-stand b (cites b) (citesAt b) (textsAt b) (tests b h .cited) in
+    omega (arith, print-within (treeAt b 0) (r .fits .wide), bytes-length (treeAt b 0), r .size, r .counts, ap (λ (ts : List (List ℕ)). length (concat ts)) (r .cited), x .0)
 
 outcome : (b : List ℕ) → isTree b ≡ true → displayAnswer b ≡ ok (withLength (printed (treeAt b 0)))
 unfolding displayAnswer map-ok

@@ -115,7 +115,22 @@ fn print_row(tree: &[u8], row: usize, out: &mut [u8], at: usize) -> usize
     w
 }
 
-// Writes the print of a tree; 15, then 14.
+// Writes the print into a scratch first, since the buffer may be too short for it.
+fn display_apart(tree: &[u8], out: &mut [u8]) -> Displayed
+    requires { ⌜ isTree (now tree) ≡ true ⌝ }
+    ensures { λ r. ⌜ displaySaid r ≡ answerOf (displayAnswer (now (tree .entry))) (length (now (out .entry))) ⌝ }
+    ensures { λ _. ⌜ now (out .exit) ≡ writtenOf (displayAnswer (now (tree .entry))) (now (out .entry)) ⌝ }
+{
+    let mut scratch = [0u8; PRINT_LIMIT];
+    let n = print_row(tree, 0, &mut scratch, 0);
+    if out.len() < n {
+        return Displayed::Refused(Refusal::NoRoom);
+    }
+    put_text(&scratch[..n], out, 0);
+    Displayed::Done(n)
+}
+
+// Writes the print of a tree; 15, then 14. A print is no longer than its tree, so a buffer as long as the tree holds it.
 pub fn display(tree: &[u8], out: &mut [u8]) -> Displayed
     ensures { λ r. ⌜ displaySaid r ≡ answerOf (displayAnswer (now (tree .entry))) (length (now (out .entry))) ⌝ }
     ensures { λ _. ⌜ now (out .exit) ≡ writtenOf (displayAnswer (now (tree .entry))) (now (out .entry)) ⌝ }
@@ -123,11 +138,9 @@ pub fn display(tree: &[u8], out: &mut [u8]) -> Displayed
     if !is_tree(tree) {
         return Displayed::Refused(Refusal::NotATree);
     }
-    let mut scratch = [0u8; PRINT_LIMIT];
-    let n = print_row(tree, 0, &mut scratch, 0);
-    if out.len() < n {
-        return Displayed::Refused(Refusal::NoRoom);
+    if out.len() < tree.len() {
+        return display_apart(tree, out);
     }
-    put_text(&scratch[..n], out, 0);
+    let n = print_row(tree, 0, out, 0);
     Displayed::Done(n)
 }

@@ -16,6 +16,7 @@
 //     pakete TREE BUF         ok ROWS BUF', the package rows in the buffer
 //     truth TREE VALUE        0 to 2
 //     violations TREE VALUE BUF   ok COUNT BUF', the citation numbers in the buffer
+//     cited TREE              the texts, joined by `,`
 //
 // BUF is what a lent buffer holds before the call, BUF' after it; a refusal shows it too, `refused N BUF'`.
 //
@@ -44,6 +45,7 @@ use reader::ParseAnswer;
 use reader::Status;
 use reader::StatusAnswer;
 use refusal::Refusal;
+use tree::CitedText;
 use verdicts::TruthAnswer;
 use verdicts::ViolationsAnswer;
 
@@ -59,6 +61,9 @@ const BYTES: usize = 32768;
 const ROOM: usize = 65600;
 
 const OUT: usize = 131200;
+
+// The most citations.
+const CITATIONS: usize = 256;
 
 // How many bytes of the present line are held, and how many bytes of output wait.
 struct State {
@@ -440,6 +445,66 @@ fn violations(
     violations_into(&tree[..n], &value[..m], &mut buf[..k], out)
 }
 
+// A part of a tree after a comma, but for the first, where it stands in the tree and has room; the length so far.
+fn put_cited(tree: &[u8], start: usize, size: usize, out: &mut [u8], at: usize) -> usize
+    requires { ⌜ HasRoom (now out) × ((length (now tree) ≤ 32768) × (at < 65600)) ⌝ }
+    ensures { λ r. ⌜ r < 65600 ⌝ }
+{
+    if tree.len() < start {
+        return at;
+    }
+    if tree.len() - start < size {
+        return at;
+    }
+    if ROOM - at < 2 * size + 3 {
+        return at;
+    }
+    let end = start + size;
+    if at == 0 {
+        return protocol::put_hex(out, 0, &tree[start..end]);
+    }
+    let from = protocol::put(out, at, b",");
+    protocol::put_hex(out, from, &tree[start..end])
+}
+
+fn cited_into(tree: &[u8], out: &mut [u8]) -> usize
+    requires { ⌜ HasRoom (now out) × (length (now tree) ≤ 32768) ⌝ }
+    ensures { λ r. ⌜ r ≤ length (now (out .exit)) ⌝ }
+{
+    let mut at = 0;
+    let mut n = 0;
+    while n < CITATIONS {
+        match tree::cited(tree, n) {
+            CitedText::Refused(why) => {
+                return refused(out, why);
+            }
+            CitedText::Absent => {
+                return protocol::put(out, at, b"\n");
+            }
+            CitedText::At { start, size } => {
+                at = put_cited(tree, start, size, out, at);
+            }
+        }
+        n += 1;
+    }
+    protocol::put(out, at, b"\n")
+}
+
+fn cited(line: &[u8], at: usize, bytes: &mut [u8], out: &mut [u8]) -> usize
+    requires { ⌜ Asked at (now line) (now bytes) (now out) ⌝ }
+    ensures { λ r. ⌜ r ≤ length (now (out .exit)) ⌝ }
+{
+    let field = protocol::one_field(line, at, bytes);
+    if !field.good {
+        return bad_request(out);
+    }
+    let n = field.len;
+    if BYTES < n {
+        return bad_request(out);
+    }
+    cited_into(&bytes[..n], out)
+}
+
 // The requests about whole expressions.
 fn respond_tree(
     word: &[u8],
@@ -464,6 +529,9 @@ fn respond_tree(
     }
     if text::same_bytes(word, b"print") {
         return print(line, at, first, second, out);
+    }
+    if text::same_bytes(word, b"cited") {
+        return cited(line, at, first, out);
     }
     respond_judge(word, line, at, first, second, third, out)
 }

@@ -6,8 +6,10 @@ use Prim.Native.Nat.{ℕ, zero, suc, _+_, _-_, _/_, _≤_, _<_}
 use native.Mathlib.Omega.{arith}
 use lib.ListN.{length, take, length-append}
 use borrow.Author.Tests.{lt-ltb, le-ltb}
-use Rattle.refusal.specs.Result.{Result, ok, refused, refuse, then}
-use Rattle.refusal.specs.declared.Refusal.the-variants.{NotATree, NoRoom}
+use Rattle.refusal.specs.Result.{Result, ok, refused, refuse, then, map-ok}
+use Rattle.refusal.specs.Refusals.{numberOf}
+use Rattle.refusal.specs.declared.Refusal.{Refusal}
+use Rattle.refusal.specs.declared.Refusal.the-variants.{NotATree, NoRoom, WrongAnswers}
 use Rattle.utf8.specs.Limits.{valueLimit, admitted}
 use Rattle.citation.specs.declared.ConditionKind.{ConditionKind}
 use Rattle.citation.specs.Kinds.{kindOf}
@@ -25,7 +27,11 @@ use Rattle.semantics.specs.Rules.{isFalse, isUnknown, isTrue, any, andRule, orR
 use Rattle.semantics.specs.Truth.{isJudged, citedTruth, truth, truths}
 use Rattle.semantics.specs.Violations.{violated, violatedOf, violations, numberBytes}
 use Rattle.semantics.specs.Sizes.{numbers-length, violated-few}
-use Rattle.semantics.specs.Answers.{numbered, truthAnswer, violationsAnswer}
+use Rattle.semantics.specs.Presence.{answersFit}
+use Rattle.semantics.specs.Answers.{presenceBy, numbered, truthAnswer, violationsAnswer, evalAndTruthAnswer}
+use Rattle.presence.specs.declared.EvalAnswer.{EvalAnswer}
+use Rattle.presence.specs.declared.EvalAnswer.the-variants as eval
+use Rattle.presence.specs.Said.{evalSaid}
 use Rattle.fields.specs.Appended.{Appended}
 use Rattle.fields.proofs.Appends.{nothing, both, same, whole}
 use Rattle.tree.specs.Walk.{nodeKind, numberAt, firstAt, textAt}
@@ -359,6 +365,39 @@ module _ (b value : List ℕ) where
           let half : r .at / 2 ≡ length ns = omega (arith, j .written .ends, ap length (bytes-are t), numbers-length ns) in
           let bytes : take (r .at) list ≡ numberBytes ns = j .written .has ∙ sym (bytes-are t) in
           (ap ok half ∙ sym (ap (λ x. answerOf x (length old)) (answer-is a) ∙ answer-fits w (length old) fits), whole (same bytes p) ∙ sym (ap (λ x. writtenOf x old) (answer-is a) ∙ written-fits w old fits))
+
+module _ (b answers value : List ℕ) where
+  -- 15
+  pub both-no-tree : isTree b ≡ false → refuse NotATree ≡ evalAndTruthAnswer b answers value
+  unfolding evalAndTruthAnswer then
+  both-no-tree h = rw (no-tree b h)
+
+  module _ (tree : isTree b ≡ true) where
+    -- 16
+    pub both-unfit : answersFit (treeAt b 0) answers ≡ false → refuse WrongAnswers ≡ evalAndTruthAnswer b answers value
+    unfolding evalAndTruthAnswer then
+    both-unfit k = rw (root b tree .is, k)
+
+    module _ (fit : answersFit (treeAt b 0) answers ≡ true) where
+      -- the value's 10 and 11
+      pub both-turned : (k : ℕ) → ((r : Result (Truth × Truth)) → admitted valueLimit value r ≡ refused k) → refused k ≡ evalAndTruthAnswer b answers value
+      unfolding evalAndTruthAnswer then
+      both-turned k a = rw (root b tree .is, fit) (sym (a _))
+
+      module _ (a : (r : Result (Truth × Truth)) → admitted valueLimit value r ≡ r) (o : EvalAnswer) (e : evalSaid o ≡ presenceBy answers (treeAt b 0)) where
+        both-is : (x : Result Truth) → evalSaid o ≡ x → map-ok (λ p. (p, truth value (treeAt b 0))) x ≡ evalAndTruthAnswer b answers value
+        unfolding evalAndTruthAnswer then
+        both-is x h = rw (root b tree .is, fit) (ap (map-ok (λ p. (p, truth value (treeAt b 0)))) (sym h ∙ e) ∙ sym (a _))
+
+        -- 7 and 8
+        pub both-refused : (why : Refusal) → o ≡ eval.Refused why → refuse why ≡ evalAndTruthAnswer b answers value
+        unfolding map-ok
+        both-refused why h = both-is (refuse why) (ap evalSaid h)
+
+        -- both
+        pub both-done : (p f : Truth) → o ≡ eval.Value p → f ≡ truth value (treeAt b 0) → ok (p, f) ≡ evalAndTruthAnswer b answers value
+        unfolding map-ok
+        both-done p f h g = ap (λ x. ok (p, x)) g ∙ both-is (ok p) (ap evalSaid h)
 
 -- a node of kind 1 or 2
 pub rule-every : (k : ℕ) (t : Tally) (v : Truth) → v ≡ everyOf t → k < 3 → v ≡ ruleOf k t

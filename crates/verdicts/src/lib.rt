@@ -4,6 +4,9 @@ use citation::Truth;
 use fields::put_text;
 use fields::put16;
 use formats::verdict_on;
+use presence::EvalAnswer;
+use presence::answers_fit;
+use presence::eval_tree;
 use refusal::Refusal;
 use tree::is_tree;
 use tree::kind_at;
@@ -15,15 +18,16 @@ ghost use mathlib.Core.Path.{_≡_};
 ghost use mathlib.Core.Bool.{true};
 ghost use Prim.Native.Nat.{_+_, _≤_, _<_};
 ghost use lib.ListN.{length};
-ghost use Rattle.grammar.specs.Bytes.{nodes, cites, isTree};
+ghost use Rattle.grammar.specs.Bytes.{nodes, cites, isTree, treeAt};
 ghost use Rattle.grammar.specs.Outcome.{answerOf, writtenOf};
 ghost use Rattle.semantics.specs.Rules.{isFalse};
 ghost use Rattle.semantics.specs.Truth.{isJudged, citedTruth};
-ghost use Rattle.semantics.specs.Answers.{truthAnswer, violationsAnswer};
+ghost use Rattle.semantics.specs.Truth as format;
+ghost use Rattle.semantics.specs.Answers.{truthAnswer, violationsAnswer, evalAndTruthAnswer};
 ghost use Rattle.tree.specs.Walk.{textAt};
 ghost use Rattle.verdicts.specs.Tallies.{noTruths, withTruth, everyOf, someOf, ruleOf};
 ghost use Rattle.verdicts.specs.Judged.{citedNumbers, CitedJudged, RowJudged, numbersAt};
-ghost use Rattle.verdicts.specs.Said.{truthSaid, violationsSaid};
+ghost use Rattle.verdicts.specs.Said.{truthSaid, violationsSaid, bothSaid};
 
 // The bytes that the numbers of all citations of a tree take up.
 const LIST_SIZE: usize = 512;
@@ -37,6 +41,12 @@ pub enum TruthAnswer {
 // How many citations are violated, or why none are listed.
 pub enum ViolationsAnswer {
     Count(usize),
+    Refused(Refusal),
+}
+
+// The presence and the format truth of a tree, or why there are none.
+pub enum BothAnswer {
+    Value { presence: Truth, format: Truth },
     Refused(Refusal),
 }
 
@@ -208,6 +218,16 @@ fn judge_row(tree: &[u8], value: &[u8], row: usize, list: &mut [u8], at: usize) 
     }
 }
 
+// The format truth of a tree that was tested.
+fn truth_of(tree: &[u8], value: &[u8]) -> Truth
+    requires { ⌜ isTree (now tree) ≡ true ⌝ }
+    ensures { λ r. ⌜ r ≡ format.truth (now (value .entry)) (treeAt (now (tree .entry)) 0) ⌝ }
+{
+    let mut list = [0u8; LIST_SIZE];
+    let judged = judge_row(tree, value, 0, &mut list, 0);
+    judged.truth
+}
+
 // The format truth of a tree for a value.
 pub fn truth(tree: &[u8], value: &[u8]) -> TruthAnswer
     ensures { λ r. ⌜ truthSaid r ≡ truthAnswer (now (tree .entry)) (now (value .entry)) ⌝ }
@@ -219,10 +239,7 @@ pub fn truth(tree: &[u8], value: &[u8]) -> TruthAnswer
     if let Admitted::Refused(why) = admitted {
         return TruthAnswer::Refused(why);
     }
-    let mut list = [0u8; LIST_SIZE];
-    let judged = judge_row(tree, value, 0, &mut list, 0);
-    let found = judged.truth;
-    TruthAnswer::Value(found)
+    TruthAnswer::Value(truth_of(tree, value))
 }
 
 // The numbers of the violated citations, if the format truth is False.
@@ -248,4 +265,27 @@ pub fn violations(tree: &[u8], value: &[u8], out: &mut [u8]) -> ViolationsAnswer
     }
     put_text(&list[..judged.at], out, 0);
     ViolationsAnswer::Count(judged.at / 2)
+}
+
+// The presence and the format truth of a tree: 15, 16, the value's 10 and 11, then 7 and 8 as met.
+pub fn eval_and_truth(tree: &[u8], answers: &[u8], value: &[u8]) -> BothAnswer
+    ensures { λ r. ⌜ bothSaid r ≡ evalAndTruthAnswer (now (tree .entry)) (now (answers .entry)) (now (value .entry)) ⌝ }
+{
+    if !is_tree(tree) {
+        return BothAnswer::Refused(Refusal::NotATree);
+    }
+    if !answers_fit(tree, answers) {
+        return BothAnswer::Refused(Refusal::WrongAnswers);
+    }
+    let admitted = utf8::admit(value, utf8::VALUE_LIMIT);
+    if let Admitted::Refused(why) = admitted {
+        return BothAnswer::Refused(why);
+    }
+    match eval_tree(tree, answers) {
+        EvalAnswer::Refused(why) => BothAnswer::Refused(why),
+        EvalAnswer::Value(found) => BothAnswer::Value {
+            presence: found,
+            format: truth_of(tree, value),
+        },
+    }
 }

@@ -1,6 +1,5 @@
 use native.Mathlib.Omega.{arith}
-use mathlib.Core.Path.{sym, ap}
-use lib.ListN.{length}
+use mathlib.Core.Path.{sym}
 use Rattle.grammar.specs.Rows.{span}
 use Rattle.grammar.specs.Bytes.{treeAt}
 use Rattle.grammar.specs.Trees.{tests}

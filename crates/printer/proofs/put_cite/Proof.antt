@@ -1,6 +1,5 @@
 use native.Mathlib.Omega.{arith}
 use mathlib.Core.Path.{ap}
-use mathlib.Core.List.{_∷_, []}
 use lib.ListN.{length}
 use Rattle.fields.proofs.Appends as appends
 use borrow.Author.Needs.{needs}

@@ -1,10 +1,8 @@
 use mathlib.Core.Path.{sym, _∙_}
-use native.Mathlib.Omega.{arith}
 use borrow.Author.Tests.{not-true, not-false}
 use Rattle.utf8.specs.Limits.{valueLimit}
 use Rattle.utf8.proofs.Limits.{admitted-fine, admitted-refused}
-use Rattle.tree.proofs.Walks.{root}
-use Rattle.verdicts.proofs.Laws.{list-room, truth-no-tree, truth-turned, truth-done}
+use Rattle.verdicts.proofs.Laws.{truth-no-tree, truth-turned, truth-done}
 use borrow.Author.Needs.{needs}
 use Rattle.verdicts.proofs.truth.Statement.{statement}
 use Rattle.verdicts.proofs.truth.Tie as tie
@@ -27,14 +25,11 @@ returns-2 c = truth-turned _ _ (sym (c .before .before .before .before .before .
 enum-told : tie.Need-enum-told
 enum-told c = search needs
 
-slice-aggregate-judge-row : tie.Need-slice-aggregate-judge-row
-slice-aggregate-judge-row c = search needs
-
-judge-row-requires : tie.Need-judge-row-requires
-judge-row-requires c κs = let t = sym (c .before .before .before .before .before .is-tree .ensures) ∙ not-false _ (c .before .before .before .before .if1 .left) in (t, root _ t .some, omega (arith, list-room (c .before .before .before .before .before .before .before .before .args .value .now) (c .before .before .before .before .before .before .before .before .args .tree .now) t))
+truth-of-requires : tie.Need-truth-of-requires
+truth-of-requires c κs = sym (c .before .before .before .before .is-tree .ensures) ∙ not-false _ (c .before .before .before .if1 .left)
 
 returns-3 : tie.Need-returns-3
-returns-3 c = truth-done _ _ (sym (c .before .before .before .before .before .before .before .is-tree .ensures) ∙ not-false _ (c .before .before .before .before .before .before .if1 .left)) _ (λ r. admitted-fine valueLimit (c .before .before .before .before .before .before .before .before .before .before .args .value .now) (c .before .before .before .before .before .admit .ensures) (c .before .before .before .enum-told .given .1) r) (c .before .judge-row .ensures .is)
+returns-3 c = truth-done _ _ (sym (c .before .before .before .before .before .is-tree .ensures) ∙ not-false _ (c .before .before .before .before .if1 .left)) _ (λ r. admitted-fine valueLimit (c .before .before .before .before .before .before .before .before .args .value .now) (c .before .before .before .admit .ensures) (c .before .enum-told .given .1) r) (c .truth-of .ensures)
 
 pub truth-spec : {M : Type 1} → statement M
 truth-spec =
@@ -46,6 +41,5 @@ truth-spec =
     enum-known-admitted
     returns-2
     enum-told
-    slice-aggregate-judge-row
-    judge-row-requires
+    truth-of-requires
     returns-3)
