@@ -1,7 +1,6 @@
 //! The original and ours on the same inputs in the same driver: time a call, ratio, stack.
 
 use std::hint::black_box;
-use std::mem::MaybeUninit;
 use std::path::Path;
 use std::time::Instant;
 
@@ -75,29 +74,18 @@ fn time(lines: &[&Line], mut call: impl FnMut(&Line)) -> f64 {
     times[RUNS / 2]
 }
 
-#[inline(never)]
-fn paint() {
-    let mut stack = [MaybeUninit::<u8>::uninit(); STACK];
-    for byte in &mut stack {
-        unsafe { byte.as_mut_ptr().write_volatile(0xA5) };
-    }
-    black_box(&stack);
-}
-
-#[inline(never)]
-fn painted() -> usize {
-    let stack = [MaybeUninit::<u8>::uninit(); STACK];
-    let bytes = black_box(&stack).as_ptr().cast::<u8>();
-    (0..STACK).take_while(|i| unsafe { bytes.add(*i).read_volatile() } == 0xA5).count()
-}
-
 /// Bytes of stack that the deepest of the calls takes, to some hundred bytes.
-fn stack(lines: &[&Line], mut call: impl FnMut(&Line)) -> usize {
+#[inline(never)]
+fn stack(lines: &[&Line], call: &mut dyn FnMut(&Line)) -> usize {
+    let here = 0u8;
+    let top = black_box(&raw const here).addr() - 256;
+    let place = |below: usize| std::ptr::with_exposed_provenance_mut::<u8>(top - below);
     let mut most = 0;
     for line in lines {
-        paint();
+        (1..STACK).for_each(|below| unsafe { place(below).write_volatile(0xA5) });
         call(black_box(line));
-        most = most.max(STACK - painted());
+        let used = (1..STACK).rev().find(|below| unsafe { place(*below).read_volatile() } != 0xA5);
+        most = most.max(used.unwrap_or(0) + 256);
     }
     most
 }
@@ -201,8 +189,14 @@ fn worst() -> Result<Vec<(&'static str, Line)>, String> {
     ])
 }
 
-/// Writes the tables.
+/// Writes the tables, on a thread of its own, whose stack may be written to below what is in use.
 pub fn run(path: &Path) -> Result<bool, String> {
+    let path = path.to_owned();
+    let thread = std::thread::Builder::new().stack_size(64 << 20).spawn(move || tables(&path));
+    thread.map_err(|e| e.to_string())?.join().map_err(|_| "the benchmark failed".to_owned())?
+}
+
+fn tables(path: &Path) -> Result<bool, String> {
     let table = table(path)?;
     let all: Vec<&Line> = table.iter().collect();
     let with_tree: Vec<&Line> = table.iter().filter(|line| line.expr.is_some()).collect();

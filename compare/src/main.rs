@@ -11,7 +11,7 @@ use compare::request::Function;
 use compare::{list, request, tables};
 
 /// Random expressions in the long comparison.
-const LONG_ROUNDS: u64 = 8_000_000;
+const LONG_ROUNDS: u64 = 11_000_000;
 
 fn main() -> ExitCode {
     let words: Vec<String> = env::args().skip(1).collect();

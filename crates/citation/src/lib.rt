@@ -83,8 +83,8 @@ impl ConditionKind {
         }
     }
 
-    // The kind that a citation's text names, whatever its bytes.
-    pub fn of_text(text: &[u8]) -> ConditionKind
+    // The kind of a text in any form: `UB` in front first, then a `P`, then the number.
+    fn of_any(text: &[u8]) -> ConditionKind
         ensures { λ r. ⌜ r ≡ kindOf (now (text .entry)) ⌝ }
     {
         if text::begins_at(text, 0, b"UB") {
@@ -97,6 +97,17 @@ impl ConditionKind {
         match found {
             Found::Number(n) => ConditionKind::of_number(n),
             Found::Nothing => ConditionKind::Other,
+        }
+    }
+
+    // The kind that a citation's text names, whatever its bytes. Most are digits alone, and those are neither a Zeitpunkt nor a Paket.
+    pub fn of_text(text: &[u8]) -> ConditionKind
+        ensures { λ r. ⌜ r ≡ kindOf (now (text .entry)) ⌝ }
+    {
+        let digits = text::digits_up_to(text, LARGEST_NUMBER);
+        match digits {
+            Found::Number(n) => ConditionKind::of_number(n),
+            Found::Nothing => ConditionKind::of_any(text),
         }
     }
 

@@ -15,6 +15,9 @@ use Rattle.utf8.specs.Utf8.{isUtf8, decode, encode, encodeChar, stepAt}
 use Rattle.utf8.specs.White.{isWhite}
 use Rattle.utf8.specs.declared.Step.the-variants.{Char, Bad, End}
 use Rattle.utf8.proofs.Laws.{char-at, decode-at, decode-bad, step-end, decode-nil}
+use Rattle.utf8.proofs.Ascii.{ascii-at}
+use Rattle.utf8.proofs.White.{white-visible}
+use Rattle.grammar.specs.Lex.{blankChar}
 use Rattle.grammar.specs.Citable.{holds}
 use Rattle.lexer.specs.Runs.{leading, trailing, runEnd, upTo, fromOn}
 use Rattle.lexer.proofs.Split.{char-size, size-cons, step-width, none-left}
@@ -93,6 +96,15 @@ module _ (w : Bool) (s : List ℕ) (i : ℕ) where
 
   pub run-out : length s ≤ i → i ≡ runEnd w s i
   run-out h = none (none-left s i h)
+
+-- the white space from `i` on, by an ASCII byte there
+module _ (s : List ℕ) (i : ℕ) (h : i < length s) where
+  pub space-on : getD s i 0 ≡ blankChar → runEnd true s (i + 1) ≡ runEnd true s i
+  unfolding isWhite
+  space-on e = run-on true s i (getD s i 0) 1 (omega arith) (ascii-at s i h (omega arith)) (ap (λ (x : ℕ). agree (isWhite x) true) e)
+
+  pub visible-off : 0x20 < getD s i 0 → getD s i 0 < 0x80 → i ≡ runEnd true s i
+  visible-off l m = run-off true s i (getD s i 0) 1 (ascii-at s i h m) (ap (λ (x : Bool). agree x true) (white-visible (getD s i 0) l m))
 
 -- the two parts are the whole
 pub upto-from : (x : ℕ) (cs : List ℕ) → cs ≡ upTo x cs ++ fromOn x cs

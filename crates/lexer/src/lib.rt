@@ -94,8 +94,8 @@ fn agrees(a: bool, b: bool) -> bool
     !b
 }
 
-// The place after the characters from `at` on that are white space, or after those that are not.
-pub fn run_end(text: &[u8], at: usize, white: bool) -> usize
+// The place after the characters from `at` on that are white space, or after those that are not, whatever characters they are.
+fn any_end(text: &[u8], at: usize, white: bool) -> usize
     ensures { λ r. ⌜ r ≡ runEnd white (now (text .entry)) at ⌝ }
 {
     let mut i = at;
@@ -117,6 +117,44 @@ pub fn run_end(text: &[u8], at: usize, white: bool) -> usize
         }
     }
     i
+}
+
+// The place after the white space from `at` on, where some byte stands: most often a visible ASCII one, and then it is `at`.
+fn other_end(text: &[u8], at: usize) -> usize
+    requires { ⌜ at < length (now text) ⌝ }
+    ensures { λ r. ⌜ r ≡ runEnd true (now (text .entry)) at ⌝ }
+{
+    if text[at] <= b' ' {
+        return any_end(text, at, true);
+    }
+    if 0x7F < text[at] {
+        return any_end(text, at, true);
+    }
+    at
+}
+
+// The place after the white space from `at` on: spaces first.
+fn white_end(text: &[u8], at: usize) -> usize
+    ensures { λ r. ⌜ r ≡ runEnd true (now (text .entry)) at ⌝ }
+{
+    let mut i = at;
+    while i < text.len() {
+        if text[i] != b' ' {
+            return other_end(text, i);
+        }
+        i += 1;
+    }
+    i
+}
+
+// The place after the characters from `at` on that are white space, or after those that are not.
+pub fn run_end(text: &[u8], at: usize, white: bool) -> usize
+    ensures { λ r. ⌜ r ≡ runEnd white (now (text .entry)) at ⌝ }
+{
+    if white {
+        return white_end(text, at);
+    }
+    any_end(text, at, false)
 }
 
 // The place of the first `]` from `at` on, or the text's end.

@@ -19,8 +19,10 @@ ghost use Rattle.grammar.specs.Outcome.{answerOf, writtenOf, parseAnswer, statu
 ghost use Rattle.reader.specs.Said.{parseSaid, treeOutcome, statusSaid, statusOutcome};
 ghost use Rattle.reader.specs.Made.{Room, Made};
 
-// A text of so many bytes is read in a scratch that is small.
-const SHORT: usize = 64;
+// Texts of so many bytes are read in a scratch that is small.
+const SHORT: usize = 32;
+
+const MEDIUM: usize = 128;
 
 // The length of the tree that was written, or why there is none.
 pub enum ParseAnswer {
@@ -106,24 +108,58 @@ fn read(
     }
 }
 
-// The same in a scratch of its own, by the length of the text.
+// The same in a scratch of its own, for a short text.
+fn read_short(text: &[u8], out: &mut [u8]) -> ParseAnswer
+    requires { ⌜ (length (now text) ≤ 32) × (isUtf8 (now text) ≡ true) ⌝ }
+    ensures { λ r. ⌜ parseSaid r ≡ answerOf (treeOutcome (expression (decode (now (text .entry))))) (length (now (out .entry))) ⌝ }
+    ensures { λ _. ⌜ now (out .exit) ≡ writtenOf (treeOutcome (expression (decode (now (text .entry))))) (now (out .entry)) ⌝ }
+{
+    let mut kinds = [0u8; 32];
+    let mut places = [0u32; 32];
+    let mut work = [0u64; 63];
+    let mut rows = [0u64; 63];
+    read(text, &mut kinds, &mut places, &mut work, &mut rows, out)
+}
+
+// For a text of medium length.
+fn read_medium(text: &[u8], out: &mut [u8]) -> ParseAnswer
+    requires { ⌜ (length (now text) ≤ 128) × (isUtf8 (now text) ≡ true) ⌝ }
+    ensures { λ r. ⌜ parseSaid r ≡ answerOf (treeOutcome (expression (decode (now (text .entry))))) (length (now (out .entry))) ⌝ }
+    ensures { λ _. ⌜ now (out .exit) ≡ writtenOf (treeOutcome (expression (decode (now (text .entry))))) (now (out .entry)) ⌝ }
+{
+    let mut kinds = [0u8; 128];
+    let mut places = [0u32; 128];
+    let mut work = [0u64; 255];
+    let mut rows = [0u64; 255];
+    read(text, &mut kinds, &mut places, &mut work, &mut rows, out)
+}
+
+// For any text.
+fn read_long(text: &[u8], out: &mut [u8]) -> ParseAnswer
+    requires { ⌜ (length (now text) ≤ textLimit) × (isUtf8 (now text) ≡ true) ⌝ }
+    ensures { λ r. ⌜ parseSaid r ≡ answerOf (treeOutcome (expression (decode (now (text .entry))))) (length (now (out .entry))) ⌝ }
+    ensures { λ _. ⌜ now (out .exit) ≡ writtenOf (treeOutcome (expression (decode (now (text .entry))))) (now (out .entry)) ⌝ }
+{
+    let mut kinds = [0u8; 4400];
+    let mut places = [0u32; 256];
+    let mut work = [0u64; 511];
+    let mut rows = [0u64; 511];
+    read(text, &mut kinds, &mut places, &mut work, &mut rows, out)
+}
+
+// In a scratch by the length of the text, since clearing a large one costs more than a short text.
 fn read_text(text: &[u8], out: &mut [u8]) -> ParseAnswer
     requires { ⌜ (length (now text) ≤ textLimit) × (isUtf8 (now text) ≡ true) ⌝ }
     ensures { λ r. ⌜ parseSaid r ≡ answerOf (treeOutcome (expression (decode (now (text .entry))))) (length (now (out .entry))) ⌝ }
     ensures { λ _. ⌜ now (out .exit) ≡ writtenOf (treeOutcome (expression (decode (now (text .entry))))) (now (out .entry)) ⌝ }
 {
     if text.len() <= SHORT {
-        let mut kinds = [0u8; 64];
-        let mut places = [0u32; 64];
-        let mut work = [0u64; 127];
-        let mut rows = [0u64; 127];
-        return read(text, &mut kinds, &mut places, &mut work, &mut rows, out);
+        return read_short(text, out);
     }
-    let mut kinds = [0u8; 4400];
-    let mut places = [0u32; 256];
-    let mut work = [0u64; 511];
-    let mut rows = [0u64; 511];
-    read(text, &mut kinds, &mut places, &mut work, &mut rows, out)
+    if text.len() <= MEDIUM {
+        return read_medium(text, out);
+    }
+    read_long(text, out)
 }
 
 impl Expr {
@@ -185,8 +221,8 @@ fn scan_status(text: &[u8], out: &mut [u8]) -> StatusAnswer
     ensures { λ r. ⌜ statusSaid r ≡ answerOf (statusOutcome (ofWords (words (decode (now (text .entry)))))) (length (now (out .entry))) ⌝ }
     ensures { λ _. ⌜ now (out .exit) ≡ writtenOf (statusOutcome (ofWords (words (decode (now (text .entry)))))) (now (out .entry)) ⌝ }
 {
-    if text.len() <= SHORT {
-        let mut joined = [0u8; 64];
+    if text.len() <= MEDIUM {
+        let mut joined = [0u8; 128];
         return read_status(text, &mut joined, out);
     }
     let mut joined = [0u8; 4400];

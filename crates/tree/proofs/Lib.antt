@@ -4,3 +4,4 @@ pub mod Spots
 pub mod Cites
 pub mod Walks
 pub mod Answers
+pub mod Plain

@@ -8,13 +8,14 @@ use utf8::step_at;
 ghost use mathlib.Core.Path.{_≡_};
 ghost use mathlib.Core.Bool.{true, _&&_};
 ghost use Prim.Native.Nat.{_+_, _*_, _-_, _≤_, _<_};
-ghost use lib.ListN.{length};
+ghost use lib.ListN.{length, drop};
 ghost use Rattle.utf8.specs.White.{isWhite};
 ghost use Rattle.grammar.specs.Citable.{citable};
 ghost use Rattle.grammar.specs.Rows.{span};
 ghost use Rattle.grammar.specs.Bytes.{headSize, rowSize, citeSize, nodes, cites, textsAt, rowAt, rowsFrom, headOk, tiles, rowOk, counted, rowsOk, citesOk, isTree, treeAt};
 ghost use Rattle.tree.specs.Walk.{nodeKind, numberAt, textAt, textFrom, textSize};
 ghost use Rattle.tree.specs.Cited.{citedAnswer, citedSaid};
+ghost use Rattle.tree.specs.Plain.{isPlain, allPlain, PlainIf};
 
 // The bytes of the header, of a node row and of a citation row.
 pub const HEAD_SIZE: usize = 12;
@@ -188,9 +189,55 @@ fn is_citable(text: &[u8]) -> bool
     !blank
 }
 
-// `c` citation rows from the byte `from` on are those of citable texts from the byte `base` to the end.
-fn cites_ok(tree: &[u8], base: usize, c: usize, from: usize) -> bool
-    requires { ⌜ (base ≡ textsAt (now tree)) × (from + citeSize * c ≤ length (now tree)) × (base ≤ length (now tree)) ⌝ }
+// A byte of visible ASCII other than `]`.
+fn is_plain(b: u8) -> bool
+    ensures { λ r. ⌜ r ≡ isPlain b ⌝ }
+{
+    if b < 0x21 {
+        return false;
+    }
+    if 0x7E < b {
+        return false;
+    }
+    b != 0x5D
+}
+
+fn still_plain(plain: bool, b: u8) -> bool
+    ensures { λ r. ⌜ r ≡ plain && isPlain b ⌝ }
+{
+    if is_plain(b) {
+        return plain;
+    }
+    false
+}
+
+// Whether every byte from `from` on is plain. All are looked at: a loop with one way out is compiled to many bytes a turn.
+fn all_plain(s: &[u8], from: usize) -> bool
+    ensures { λ r. ⌜ r ≡ allPlain (drop from (now (s .entry))) ⌝ }
+{
+    let mut plain = true;
+    let mut i = from;
+    while i < s.len() {
+        plain = still_plain(plain, s[i]);
+        i += 1;
+    }
+    plain
+}
+
+// A citation's text, as `is_citable`; if `plain`, its bytes are known to be plain.
+fn text_ok(text: &[u8], plain: bool) -> bool
+    requires { ⌜ PlainIf plain (now text) ⌝ }
+    ensures { λ r. ⌜ r ≡ citable (now (text .entry)) ⌝ }
+{
+    if plain {
+        return 0 < text.len();
+    }
+    is_citable(text)
+}
+
+// `c` citation rows from the byte `from` on are those of citable texts from the byte `base` to the end; if `plain`, those bytes are known to be plain.
+fn cites_ok(tree: &[u8], base: usize, c: usize, from: usize, plain: bool) -> bool
+    requires { ⌜ (base ≡ textsAt (now tree)) × (from + citeSize * c ≤ length (now tree)) × (base ≤ length (now tree)) × PlainIf plain (drop base (now tree)) ⌝ }
     ensures { λ r. ⌜ r ≡ citesOk (now (tree .entry)) c from base ⌝ }
 {
     let mut left = c;
@@ -206,7 +253,7 @@ fn cites_ok(tree: &[u8], base: usize, c: usize, from: usize) -> bool
             return false;
         }
         let e = p + n;
-        if !is_citable(&tree[p..e]) {
+        if !text_ok(&tree[p..e], plain) {
             return false;
         }
         left -= 1;
@@ -231,12 +278,9 @@ pub fn is_tree(tree: &[u8]) -> bool
     if !rows_ok(tree, n, c) {
         return false;
     }
-    cites_ok(
-        tree,
-        HEAD_SIZE + ROW_SIZE * n + CITE_SIZE * c,
-        c,
-        HEAD_SIZE + ROW_SIZE * n,
-    )
+    let base = HEAD_SIZE + ROW_SIZE * n + CITE_SIZE * c;
+    let plain = all_plain(tree, base);
+    cites_ok(tree, base, c, HEAD_SIZE + ROW_SIZE * n, plain)
 }
 
 // How many node rows a tree has.

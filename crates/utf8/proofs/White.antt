@@ -38,6 +38,12 @@ pub white-outside : (c : ℕ) → Outside whiteRanges c → isWhite c ≡ false
 unfolding isWhite
 white-outside c h = not-among whiteRanges c h
 
+-- visible ASCII is none
+pub white-visible : (c : ℕ) → 0x20 < c → c < 0x80 → isWhite c ≡ false
+white-visible c h l =
+    white-outside c
+    (inr (omega arith), (inr (omega arith), (inl (omega arith), (inl (omega arith), (inl (omega arith), (inl (omega arith), (inl (omega arith), (inl (omega arith), (inl (omega arith), (inl (omega arith), tt))))))))))
+
 apart : (c n : ℕ) → (c ≡ n → ⊥) → (c < n) ⊎ (n < c)
 apart c n h = elim (decLt c n) [ yes l ↦ inl l | no m ↦ inr (omega arith) ]
 

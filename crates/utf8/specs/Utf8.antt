@@ -90,6 +90,11 @@ isBetween between = true
 isBetween (inside k low high code) = false
 isBetween wrong = false
 
+-- every byte is ASCII
+abbrev pub allAscii : List ℕ → Bool
+allAscii [] = true
+allAscii (b ∷ s) = ltb b 0x80 && allAscii s
+
 -- the bytes are the UTF-8 of some text
 unfoldable pub isUtf8 : List ℕ → Bool
 isUtf8 s = isBetween (run between s)

@@ -1,9 +1,11 @@
 // UTF-8: the character at a place, whether bytes are well-formed, how many characters they are, white space, and what is tested of every text first.
 ghost use mathlib.Core.Path.{_≡_};
+ghost use mathlib.Core.Bool.{_&&_};
 ghost use Prim.Native.Nat.{_+_, _*_, _^_, _≤_, _<_};
+ghost use lib.Dec.{ltb, leb};
 ghost use lib.ListN.{length, drop};
 ghost use Rattle.refusal.specs.Result.{ok};
-ghost use Rattle.utf8.specs.Utf8.{leadOf, charOf, codeOf, stepAt, isUtf8, charCount};
+ghost use Rattle.utf8.specs.Utf8.{leadOf, charOf, codeOf, stepAt, allAscii, isUtf8, charCount};
 ghost use Rattle.utf8.specs.White.{isWhite};
 ghost use Rattle.utf8.specs.Limits.{admitted, admitSaid};
 use refusal::Refusal;
@@ -129,7 +131,30 @@ impl Cursor {
     }
 }
 
-pub fn is_utf8(s: &[u8]) -> bool
+fn still_ascii(ascii: bool, b: u8) -> bool
+    ensures { λ r. ⌜ r ≡ ascii && ltb b 0x80 ⌝ }
+{
+    if ascii {
+        return b < 0x80;
+    }
+    false
+}
+
+// Whether every byte is ASCII. All are looked at: a loop with one way out is compiled to many bytes a turn.
+fn all_ascii(s: &[u8]) -> bool
+    ensures { λ r. ⌜ r ≡ allAscii (now (s .entry)) ⌝ }
+{
+    let mut ascii = true;
+    let mut i = 0;
+    while i < s.len() {
+        ascii = still_ascii(ascii, s[i]);
+        i += 1;
+    }
+    ascii
+}
+
+// The bytes are UTF-8, looked at character by character.
+fn every_char(s: &[u8]) -> bool
     ensures { λ r. ⌜ r ≡ isUtf8 (now (s .entry)) ⌝ }
 {
     let mut at = 0;
@@ -148,6 +173,27 @@ pub fn is_utf8(s: &[u8]) -> bool
         }
     }
     true
+}
+
+// A text so long that all its bytes are first tested for ASCII.
+const LONG: usize = 64;
+
+fn long_ascii(s: &[u8]) -> bool
+    ensures { λ r. ⌜ r ≡ leb 64 (length (now (s .entry))) && allAscii (now (s .entry)) ⌝ }
+{
+    if s.len() < LONG {
+        return false;
+    }
+    all_ascii(s)
+}
+
+pub fn is_utf8(s: &[u8]) -> bool
+    ensures { λ r. ⌜ r ≡ isUtf8 (now (s .entry)) ⌝ }
+{
+    if long_ascii(s) {
+        return true;
+    }
+    every_char(s)
 }
 
 // How many characters stand before the end, or before the first byte that fits none.

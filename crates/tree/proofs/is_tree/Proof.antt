@@ -2,6 +2,7 @@ use native.Mathlib.Omega.{arith}
 use mathlib.Core.Path.{sym, _∙_}
 use borrow.Author.Tests.{not-true, not-false}
 use Rattle.grammar.specs.Trees.{headed}
+use Rattle.tree.proofs.Plain.{plain-said}
 use Rattle.tree.proofs.Steps.{tree-head, tree-root, tree-rows, tree-last}
 use borrow.Author.Needs.{needs}
 use Rattle.tree.proofs.is_tree.Statement.{statement}
@@ -31,33 +32,36 @@ rows-ok-requires c κs = let k = headed _ (sym (c .before .before .before .befor
 returns-3 : tie.Need-returns-3
 returns-3 c = tree-rows _ _ _ (c .before .before .before .before .before .get16 .ensures .0) (c .before .before .before .before .get162 .ensures .0) (sym (c .before .rows-ok .ensures) ∙ not-true _ (c .if3 .taken))
 
+mul-base : tie.Need-mul-base
+mul-base c = search needs
+
+add-base : tie.Need-add-base
+add-base c = search needs
+
+mul-base-2 : tie.Need-mul-base-2
+mul-base-2 c = search needs
+
+add-base-2 : tie.Need-add-base-2
+add-base-2 c = search needs
+
+all-plain-requires : tie.Need-all-plain-requires
+all-plain-requires c κs = search needs
+
 mul-cites-ok : tie.Need-mul-cites-ok
 mul-cites-ok c = search needs
 
 add-cites-ok : tie.Need-add-cites-ok
 add-cites-ok c = search needs
 
-mul-cites-ok-2 : tie.Need-mul-cites-ok-2
-mul-cites-ok-2 c = search needs
-
-add-cites-ok-2 : tie.Need-add-cites-ok-2
-add-cites-ok-2 c = search needs
-
-mul-cites-ok-3 : tie.Need-mul-cites-ok-3
-mul-cites-ok-3 c = search needs
-
-add-cites-ok-3 : tie.Need-add-cites-ok-3
-add-cites-ok-3 c = search needs
-
 cites-ok-requires : tie.Need-cites-ok-requires
-cites-ok-requires c κs = let k = headed _ (sym (c .before .before .before .before .before .before .before .head-ok .ensures) ∙ not-false _ (c .before .before .before .before .before .before .if1 .left)) in
-    let n = c .before .before .before .before .before .get16 .ensures .0 in
-    let m = c .before .before .before .before .get162 .ensures .0 in
-    (omega (arith, n, m), omega (arith, k .inside, n, m), omega (arith, k .inside, n, m))
+cites-ok-requires c κs = let k = headed _ (sym (c .before .before .before .before .before .before .before .before .head-ok .ensures) ∙ not-false _ (c .before .before .before .before .before .before .before .if1 .left)) in
+    let n = c .before .before .before .before .before .before .get16 .ensures .0 in
+    let m = c .before .before .before .before .before .get162 .ensures .0 in
+    (omega (arith, n, m), omega (arith, k .inside, n, m), omega (arith, k .inside, n, m), plain-said _ _ (c .all-plain .ensures))
 
 returns-4 : tie.Need-returns-4
 returns-4 c = c .cites-ok .ensures
-    ∙ tree-last _ _ _ (c .before .before .before .before .before .before .get16 .ensures .0) (c .before .before .before .before .before .get162 .ensures .0) (sym (c .before .before .before .before .before .before .before .before .head-ok .ensures) ∙ not-false _ (c .before .before .before .before .before .before .before .if1 .left)) (sym (c .before .before .before .before .tiles-at .ensures) ∙ not-false _ (c .before .before .before .if2 .left)) (sym (c .before .before .rows-ok .ensures) ∙ not-false _ (c .before .if3 .left))
+    ∙ tree-last _ _ _ (c .before .before .before .before .before .before .before .get16 .ensures .0) (c .before .before .before .before .before .before .get162 .ensures .0) (sym (c .before .before .before .before .before .before .before .before .before .head-ok .ensures) ∙ not-false _ (c .before .before .before .before .before .before .before .before .if1 .left)) (sym (c .before .before .before .before .before .tiles-at .ensures) ∙ not-false _ (c .before .before .before .before .if2 .left)) (sym (c .before .before .before .rows-ok .ensures) ∙ not-false _ (c .before .before .if3 .left))
 
 pub is-tree-spec : {M : Type 1} → statement M
 is-tree-spec =
@@ -71,11 +75,12 @@ is-tree-spec =
     returns-2
     rows-ok-requires
     returns-3
+    mul-base
+    add-base
+    mul-base-2
+    add-base-2
+    all-plain-requires
     mul-cites-ok
     add-cites-ok
-    mul-cites-ok-2
-    add-cites-ok-2
-    mul-cites-ok-3
-    add-cites-ok-3
     cites-ok-requires
     returns-4)

@@ -1,0 +1,33 @@
+use Rattle.line.proofs.Texts.{line-names, lined}
+use borrow.Author.Needs.{needs}
+use Rattle.line.proofs.presence_line.Statement.{statement}
+use Rattle.line.proofs.presence_line.Tie as tie
+
+slice-aggregate-put-text : tie.Need-slice-aggregate-put-text
+slice-aggregate-put-text c = search needs
+
+put-text-requires : tie.Need-put-text-requires
+put-text-requires c κs = search needs
+
+put-truth-requires : tie.Need-put-truth-requires
+put-truth-requires c κs = search needs
+
+put-byte-requires : tie.Need-put-byte-requires
+put-byte-requires c κs = search needs
+
+same-length : tie.Need-same-length
+same-length c = search needs
+
+returns : tie.Need-returns
+returns c = lined "presence " 7 (line-names .1 .1 .0) (c .before .before .before .before .before .before .before .before .before .before .put-text .ensures) (c .before .before .before .before .before .before .put-truth .ensures) (c .before .before .put-byte .ensures)
+
+pub presence-line-spec : {M : Type 1} → statement M
+presence-line-spec =
+    tie.close
+    (tie.spec
+    slice-aggregate-put-text
+    put-text-requires
+    put-truth-requires
+    put-byte-requires
+    same-length
+    returns)

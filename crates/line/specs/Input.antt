@@ -1,0 +1,85 @@
+-- The three lines of an input, and what is kept of them byte by byte. Assumes nothing.
+use mathlib.Core.Path.{_≡_}
+use mathlib.Core.List.{List, [], _∷_, _++_}
+use mathlib.Core.Bool.{cond}
+use Prim.Native.Nat.{ℕ, zero, suc, _+_, _≤_}
+use lib.Dec.{eqb, ltb}
+use lib.ListN.{length, take}
+use Rattle.line.specs.Lines.{lineFeed, lines}
+use Rattle.line.specs.declared.Held.{Held}
+
+-- the first line of an input: it ends before its line feed, or with the input
+unfoldable pub firstLine : List ℕ → List ℕ
+firstLine [] = []
+firstLine (b ∷ s) = cond (eqb b lineFeed) [] (b ∷ firstLine s)
+
+-- what stands after the first line feed
+unfoldable pub afterLine : List ℕ → List ℕ
+afterLine [] = []
+afterLine (b ∷ s) = cond (eqb b lineFeed) s (afterLine s)
+
+-- the line with a number, from 0; a missing line is empty
+unfoldable pub lineAt : ℕ → List ℕ → List ℕ
+lineAt zero s = firstLine s
+lineAt (suc k) s = lineAt k (afterLine s)
+
+-- the lines that `ahbline` writes for an input
+abbrev pub inputLines : List ℕ → List ℕ
+inputLines input = lines (lineAt 0 input) (lineAt 1 input) (lineAt 2 input)
+
+-- what is kept of an input: the number of the line it is in, at most 3, and its first three lines as far as they decide
+pub record Kept : Type 0 where
+  pub row : ℕ
+  pub status : List ℕ
+  pub answers : List ℕ
+  pub value : List ℕ
+
+-- nothing yet
+abbrev pub noInput : Kept
+noInput = record { row = 0; status = []; answers = []; value = [] }
+
+-- a line with one byte more, unless it is full
+unfoldable pub longer : (most b : ℕ) → List ℕ → List ℕ
+longer most b t = cond (ltb (length t) most) (t ++ (b ∷ [])) t
+
+-- after a line feed
+abbrev pub nextRow : ℕ → ℕ
+nextRow row = cond (ltb row 3) (row + 1) row
+
+-- after any other byte
+abbrev pub withByte : ℕ → Kept → Kept
+withByte b h =
+    cond (eqb (h .row) 0) (record { row = h .row; status = longer 4401 b (h .status); answers = h .answers; value = h .value })
+    (cond (eqb (h .row) 1) (record { row = h .row; status = h .status; answers = longer 257 b (h .answers); value = h .value })
+    (cond (eqb (h .row) 2) (record { row = h .row; status = h .status; answers = h .answers; value = longer 1025 b (h .value) })
+    h))
+
+-- after one byte
+unfoldable pub fed : ℕ → Kept → Kept
+fed b h = cond (eqb b lineFeed) (record { row = nextRow (h .row); status = h .status; answers = h .answers; value = h .value }) (withByte b h)
+
+-- after the bytes of an input
+unfoldable pub fedAll : List ℕ → Kept → Kept
+fedAll [] h = h
+fedAll (b ∷ s) h = fedAll s (fed b h)
+
+-- what stands in three buffers
+abbrev pub keptIn : Held → (status answers value : List ℕ) → Kept
+keptIn h s a v = record { row = h .row; status = take (h .status) s; answers = take (h .answers) a; value = take (h .value) v }
+
+-- the buffers are as long as what decides, and the counts within them
+pub record Buffers (h : Held) (s a v : List ℕ) : Type 0 where
+  pub statusSize : length s ≡ 4401
+  pub answersSize : length a ≡ 257
+  pub valueSize : length v ≡ 1025
+  pub statusIn : h .status ≤ 4401
+  pub answersIn : h .answers ≤ 257
+  pub valueIn : h .value ≤ 1025
+
+-- nothing is held yet
+abbrev pub noneHeld : Held
+noneHeld = record { row = 0; status = 0; answers = 0; value = 0 }
+
+-- buffers as long as what decides
+abbrev pub Sized : (s a v : List ℕ) → Type 0
+Sized s a v = (length s ≡ 4401) × ((length a ≡ 257) × (length v ≡ 1025))

@@ -1,0 +1,4 @@
+pub mod Lines
+pub mod Said
+pub mod Parts
+pub mod Input
