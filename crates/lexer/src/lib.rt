@@ -218,7 +218,7 @@ fn token_at(text: &[u8], at: usize) -> Token
     requires { ⌜ (at < length (now text)) × (isUtf8 (drop at (now text)) ≡ true) ⌝ }
     ensures { λ r. ⌜ Begins (now (text .entry)) at r ⌝ }
 {
-    let here = utf8::step_at(text, at);
+    let here = walker::step_from(text, at);
     match here {
         Step::Bad => Token::Stop(Refusal::NotUtf8),
         Step::End => Token::Stop(Refusal::NotUtf8),

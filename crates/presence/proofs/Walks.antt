@@ -1,13 +1,13 @@
 -- The loops over a node's operands: marking, mixing, evaluating. Assumes nothing.
 use mathlib.Core.Path.{_≡_, refl, sym, ap, _∙_, subst}
 use mathlib.Core.List.{List, [], _++_, append-assoc, append-nil}
-use mathlib.Core.Bool.{Bool, true, false, not, _&&_, _||_, or-false, or-assoc}
+use mathlib.Core.Bool.{Bool, true, false, not, _&&_, _||_, or-false, or-true, or-assoc, false≢true}
 use Prim.Native.Nat.{ℕ, zero, suc, _+_, _-_, _≤_, _<_}
 use native.Mathlib.Omega.{arith}
 use lib.Dec.{eqb}
 use lib.ListN.{length, getD, set, length-set}
 use lib.Seq.{getD-set-same, getD-set-other}
-use borrow.Author.Tests.{eqb-true, eqb-false}
+use borrow.Author.Tests.{eqb-true, eqb-false, le-ltb}
 use Rattle.refusal.specs.Result.{ok, refused, refuse}
 use Rattle.refusal.specs.declared.Refusal.the-variants.{ChoiceOverNeutral}
 use Rattle.citation.specs.declared.Truth.{Truth}
@@ -19,7 +19,7 @@ use Rattle.tree.specs.Walk.{nodeKind, numberAt, firstAt, textAt}
 use Rattle.tree.proofs.Spots.{spot}
 use Rattle.tree.proofs.Walks.{Walk, leaf, children-at, first-below, walk-begins, walk-next}
 use Rattle.semantics.specs.Presence.{dropped, gates, someGate, someFree, mixes, presence, values, oracleOf}
-use Rattle.presence.specs.Marks.{markOfKind, markOf, larger, choosing, Marked}
+use Rattle.presence.specs.Marks.{markOfKind, markOf, larger, choosing, choiceAmong, Marked, Ready}
 use Rattle.presence.specs.declared.Tally.{Tally}
 use Rattle.presence.specs.Tallies.{noTally, added, ruled, finished}
 use Rattle.presence.proofs.Marks.{mark-append, mark-none, mark-one, mark-drop, mark-gate, mark-free}
@@ -119,6 +119,43 @@ marked-more b marks row m k l e = record {
     by i p q false t =
         let no : (i ≡ row → ⊥) = eqb-false i row t in
         getD-set-other marks row i m 0 no ∙ k .says i (omega (arith, no)) q
+
+-- no row
+pub among-none : (b : List ℕ) (n : ℕ) → n ≤ 0 → choiceAmong b n ≡ false
+unfolding choiceAmong
+among-none b zero h = refl
+among-none b (suc n) h = absurd (omega arith)
+
+among-more : (b : List ℕ) (n : ℕ) → choiceAmong b (suc n) ≡ (choosing (nodeKind (treeAt b n)) || choiceAmong b n)
+unfolding choiceAmong
+among-more b n = refl
+
+-- a row that is no choice's
+pub among-pass : (b : List ℕ) (row n k : ℕ) → n ≡ row + 1 → k ≡ nodeKind (treeAt b row) → k ≤ 2 → choiceAmong b row ≡ choiceAmong b n
+among-pass b row n k e ek h =
+    let s : n ≡ suc row = omega arith in
+    sym (ap (choiceAmong b) s ∙ among-more b row ∙ ap (λ x. x || choiceAmong b row) (ap (λ (x : ℕ). choosing x) (sym ek) ∙ le-ltb 2 k h))
+
+-- a choice's row
+pub among-met : (b : List ℕ) (row n k : ℕ) → row < n → k ≡ nodeKind (treeAt b row) → choosing k ≡ true → choiceAmong b n ≡ true
+among-met b row zero k l ek h = absurd (omega arith)
+among-met b row (suc n) k l ek h = among-more b n ∙ by (eqb row n) refl (λ p. among-met b row n k p ek h)
+  where
+    by : (t : Bool) → eqb row n ≡ t → (row < n → choiceAmong b n ≡ true) → (choosing (nodeKind (treeAt b n)) || choiceAmong b n) ≡ true
+    by true t f =
+        let same : n ≡ row = sym (eqb-true row n t) in
+        ap (λ x. x || choiceAmong b n) (ap (λ (x : ℕ). choosing (nodeKind (treeAt b x))) same ∙ ap (λ (x : ℕ). choosing x) (sym ek) ∙ h)
+    by false t f =
+        let no : (row ≡ n → ⊥) = eqb-false row n t in
+        ap (λ x. choosing (nodeKind (treeAt b n)) || x) (f (omega (arith, no, l))) ∙ or-true (choosing (nodeKind (treeAt b n)))
+
+-- without a choice no row need be marked
+pub ready-none : (b marks : List ℕ) → nodes b ≤ length marks → choiceAmong b (nodes b) ≡ false → Ready b marks
+ready-none b marks l h = record { room = l; marked = λ q. absurd (false≢true (sym h ∙ q)) }
+
+-- at a choice's row the rows are marked
+pub ready-marked : (b marks : List ℕ) (row kind : ℕ) → Ready b marks → row < nodes b → kind ≡ nodeKind (treeAt b row) → choosing kind ≡ true → Marked b 0 marks
+ready-marked b marks row kind r l e h = r .marked (among-met b row (nodes b) kind l e h)
 
 -- mixing: what was found among the operands that are done, and the operands that are left
 pub record Mixing (b : List ℕ) (row left child : ℕ) (gate free : Bool) : Type 0 where
@@ -228,16 +265,20 @@ module _ (b answers : List ℕ) (tree : isTree b ≡ true) where
         }
 
     -- what the mark says of the operand
-    by-mark : (marks : List ℕ) → Marked b 0 marks → (x : Bool) → (choosing kind && eqb (getD marks child 0) 0) ≡ x → (choosing kind && dropped (treeAt b child)) ≡ x
-    by-mark marks k x e =
-        ap (λ y. choosing kind && y) (sym (ap (λ (y : ℕ). eqb y 0) (k .says child (omega arith) (walk-next b tree row left child (s .walk) h .inside)) ∙ mark-drop (citations (treeAt b child)))) ∙ e
+    by-mark : (marks : List ℕ) → (choosing kind ≡ true → Marked b 0 marks) → (x : Bool) → (choosing kind && eqb (getD marks child 0) 0) ≡ x → (choosing kind && dropped (treeAt b child)) ≡ x
+    by-mark marks k x e = by (choosing kind) refl
+      where
+        by : (c : Bool) → choosing kind ≡ c → (choosing kind && dropped (treeAt b child)) ≡ x
+        by true q =
+            ap (λ y. choosing kind && y) (sym (ap (λ (y : ℕ). eqb y 0) (k q .says child (omega arith) (walk-next b tree row left child (s .walk) h .inside)) ∙ mark-drop (citations (treeAt b child)))) ∙ e
+        by false q = ap (λ y. y && dropped (treeAt b child)) q ∙ sym (ap (λ y. y && eqb (getD marks child 0) 0) q) ∙ e
 
     -- the operand is passed over
-    pub evaluating-drops : (marks : List ℕ) (z : ℕ) → Marked b 0 marks → (choosing kind && eqb (getD marks child 0) 0) ≡ true → z ≡ span (treeAt b child)
+    pub evaluating-drops : (marks : List ℕ) (z : ℕ) → (choosing kind ≡ true → Marked b 0 marks) → (choosing kind && eqb (getD marks child 0) 0) ≡ true → z ≡ span (treeAt b child)
         → Evaluating b answers kind row (left - 1) (child + z) t
     evaluating-drops marks z k e ez = onward t z ez (cut ∙ node-drops (oracleOf answers) kind t (choosing kind) (firstAt b child) (treeAt b child) _ (by-mark marks k true e))
 
-    module _ (marks : List ℕ) (k : Marked b 0 marks) (e : (choosing kind && eqb (getD marks child 0) 0) ≡ false) where
+    module _ (marks : List ℕ) (k : choosing kind ≡ true → Marked b 0 marks) (e : (choosing kind && eqb (getD marks child 0) 0) ≡ false) where
       -- the operand has a value
       pub evaluating-adds : (z : ℕ) (v : Truth) (u : Tally) → z ≡ span (treeAt b child) → presence (oracleOf answers) (firstAt b child) (treeAt b child) ≡ ok v → u ≡ added t v
           → Evaluating b answers kind row (left - 1) (child + z) u

@@ -22,7 +22,7 @@ ghost use Rattle.tree.specs.Walk.{nodeKind, firstAt};
 ghost use Rattle.semantics.specs.Presence.{failed, mixes, presence, oracleOf, answersFit};
 ghost use Rattle.semantics.specs.Answers.{presenceBy, evalAnswer};
 ghost use Rattle.presence.specs.Said.{evalSaid};
-ghost use Rattle.presence.specs.Marks.{markOfKind, larger, markOf, choosing, Marked};
+ghost use Rattle.presence.specs.Marks.{markOfKind, larger, markOf, choosing, choiceAmong, Marked, Ready};
 ghost use Rattle.presence.specs.Tallies.{noTally, added, anded, ored, xored, ruled};
 
 // The most node rows that a tree has.
@@ -260,9 +260,35 @@ fn mark_rows(tree: &[u8], marks: &mut [u8])
     }
 }
 
+// A row is a choice's.
+fn has_choice(tree: &[u8]) -> bool
+    requires { ⌜ isTree (now tree) ≡ true ⌝ }
+    ensures { λ r. ⌜ r ≡ choiceAmong (now (tree .entry)) (nodes (now (tree .entry))) ⌝ }
+{
+    let n = node_count(tree);
+    let mut row = 0;
+    while row < n {
+        if OR <= kind_at(tree, row) {
+            return true;
+        }
+        row += 1;
+    }
+    false
+}
+
+// Marks the rows if one of them is a choice's; without a choice no mark is looked at.
+fn mark_choices(tree: &[u8], marks: &mut [u8])
+    requires { ⌜ (isTree (now tree) ≡ true) × (nodes (now tree) ≤ length (now marks)) ⌝ }
+    ensures { λ _. ⌜ Ready (now (tree .entry)) (now (marks .exit)) ⌝ }
+{
+    if has_choice(tree) {
+        mark_rows(tree, marks);
+    }
+}
+
 // The node is a choice, and mixes.
 fn mixed(tree: &[u8], marks: &[u8], row: usize, kind: usize) -> bool
-    requires { ⌜ (isTree (now tree) ≡ true) × (row < nodes (now tree)) × Marked (now tree) 0 (now marks) × (kind ≡ nodeKind (treeAt (now tree) row)) ⌝ }
+    requires { ⌜ (isTree (now tree) ≡ true) × (row < nodes (now tree)) × Ready (now tree) (now marks) × (kind ≡ nodeKind (treeAt (now tree) row)) ⌝ }
     ensures { λ r. ⌜ r ≡ choosing kind && mixes (children (treeAt (now (tree .entry)) row)) ⌝ }
 {
     if kind < OR {
@@ -291,19 +317,16 @@ fn drops(kind: usize, mark: u8) -> bool
     mark == DROPPED
 }
 
-// The presence of the subtree at a row.
-fn eval_row(tree: &[u8], answers: &[u8], marks: &[u8], row: usize) -> EvalAnswer
-    requires { ⌜ (isTree (now tree) ≡ true) × (row < nodes (now tree)) × (cites (now tree) ≤ length (now answers)) × Marked (now tree) 0 (now marks) ⌝ }
+// The presence of the node at a row that is no citation's. Its citations are answered without a call.
+fn eval_node(tree: &[u8], answers: &[u8], marks: &[u8], row: usize) -> EvalAnswer
+    requires { ⌜ (isTree (now tree) ≡ true) × (row < nodes (now tree)) × (cites (now tree) ≤ length (now answers)) × Ready (now tree) (now marks) × (0 < nodeKind (treeAt (now tree) row)) ⌝ }
     ensures { λ r. ⌜ evalSaid r ≡ presence (oracleOf (now (answers .entry))) (firstAt (now (tree .entry)) row) (treeAt (now (tree .entry)) row) ⌝ }
 {
     let kind = kind_at(tree, row);
-    let mut ahead = number_at(tree, row);
-    if kind == 0 {
-        return answer_at(answers, ahead);
-    }
     if mixed(tree, marks, row, kind) {
         return EvalAnswer::Refused(Refusal::ChoiceOverNeutral);
     }
+    let mut ahead = number_at(tree, row);
     let mut child = row + 1;
     let mut tally = Tally::new();
     while 0 < ahead {
@@ -313,24 +336,38 @@ fn eval_row(tree: &[u8], answers: &[u8], marks: &[u8], row: usize) -> EvalAnswer
         if drops(kind, marks[at]) {
             continue;
         }
-        match eval_row(tree, answers, marks, at) {
-            EvalAnswer::Refused(why) => {
-                return EvalAnswer::Refused(why);
+        if kind_at(tree, at) == 0 {
+            match answer_at(answers, number_at(tree, at)) {
+                EvalAnswer::Refused(why) => return EvalAnswer::Refused(why),
+                EvalAnswer::Value(value) => tally = tally.add(value),
             }
-            EvalAnswer::Value(value) => {
-                tally = tally.add(value);
-            }
+            continue;
+        }
+        match eval_node(tree, answers, marks, at) {
+            EvalAnswer::Refused(why) => return EvalAnswer::Refused(why),
+            EvalAnswer::Value(value) => tally = tally.add(value),
         }
     }
     EvalAnswer::Value(tally.rule(kind))
 }
 
-// Marks the rows, and evaluates the tree.
+// The presence of the subtree at a row.
+fn eval_row(tree: &[u8], answers: &[u8], marks: &[u8], row: usize) -> EvalAnswer
+    requires { ⌜ (isTree (now tree) ≡ true) × (row < nodes (now tree)) × (cites (now tree) ≤ length (now answers)) × Ready (now tree) (now marks) ⌝ }
+    ensures { λ r. ⌜ evalSaid r ≡ presence (oracleOf (now (answers .entry))) (firstAt (now (tree .entry)) row) (treeAt (now (tree .entry)) row) ⌝ }
+{
+    if kind_at(tree, row) == 0 {
+        return answer_at(answers, number_at(tree, row));
+    }
+    eval_node(tree, answers, marks, row)
+}
+
+// Marks the rows where that is needed, and evaluates the tree.
 fn eval_marked(tree: &[u8], answers: &[u8], marks: &mut [u8]) -> EvalAnswer
     requires { ⌜ (isTree (now tree) ≡ true) × (answersFit (treeAt (now tree) 0) (now answers) ≡ true) × (nodes (now tree) ≤ length (now marks)) ⌝ }
     ensures { λ r. ⌜ evalSaid r ≡ presenceBy (now (answers .entry)) (treeAt (now (tree .entry)) 0) ⌝ }
 {
-    mark_rows(tree, marks);
+    mark_choices(tree, marks);
     eval_row(tree, answers, marks, 0)
 }
 

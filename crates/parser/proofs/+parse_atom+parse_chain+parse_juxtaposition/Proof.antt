@@ -69,243 +69,100 @@ parse-juxtaposition-below t =
     (falls 2 parse-juxtaposition-kinds.ps _<_ μ-parse-juxtaposition t)
     parse-juxtaposition.Pre
 
-parse-atom-returns : (t : ℕ) → parse-atom-lts.Need-returns (
+-- what is asked of the functions that are called, and what is learnt from them
+abbrev parse-atom-claims : ℕ → parse-atom-lts.Claims
+parse-atom-claims t = (
   past-token-reads.Asked,
   past-token-reads.Learnt,
   parse-chain-below t,
   parse-chain.Post,
   pack-row-reads.Asked,
   pack-row-reads.Learnt,
-) (parse-atom-at t) parse-atom.Post
+)
+
+parse-atom-returns : (t : ℕ) → parse-atom-lts.Need-returns (parse-atom-claims t) (parse-atom-at t) parse-atom.Post
 parse-atom-returns t c = let s = c .before .before .before .args .toks .now in let p = c .before .before .before .args .p in let old = c .before .before .before .args .work .now in let ready = c .before .before .before .pre .1 in
     atom-at-end s p old (c .if1 .taken)
 
-parse-atom-shared-slice-read-kind : (t : ℕ) → parse-atom-lts.Need-shared-slice-read-kind (
-  past-token-reads.Asked,
-  past-token-reads.Learnt,
-  parse-chain-below t,
-  parse-chain.Post,
-  pack-row-reads.Asked,
-  pack-row-reads.Learnt,
-) (parse-atom-at t) parse-atom.Post
+parse-atom-shared-slice-read-kind : (t : ℕ) → parse-atom-lts.Need-shared-slice-read-kind (parse-atom-claims t) (parse-atom-at t) parse-atom.Post
 parse-atom-shared-slice-read-kind t c = search needs
 
-parse-atom-past-token-requires : (t : ℕ) → parse-atom-lts.Need-past-token-requires (
-  past-token-reads.Asked,
-  past-token-reads.Learnt,
-  parse-chain-below t,
-  parse-chain.Post,
-  pack-row-reads.Asked,
-  pack-row-reads.Learnt,
-) (parse-atom-at t) parse-atom.Post
+parse-atom-past-token-requires : (t : ℕ) → parse-atom-lts.Need-past-token-requires (parse-atom-claims t) (parse-atom-at t) parse-atom.Post
 parse-atom-past-token-requires t c κs = let s = c .before .before .before .before .before .before .args .toks .now in let p = c .before .before .before .before .before .before .args .p in let old = c .before .before .before .before .before .before .args .work .now in let ready = c .before .before .before .before .before .before .pre .1 in
     omega (arith, ready .inside, ready .short)
 
-parse-atom-parse-chain-requires : (t : ℕ) → parse-atom-lts.Need-parse-chain-requires (
-  past-token-reads.Asked,
-  past-token-reads.Learnt,
-  parse-chain-below t,
-  parse-chain.Post,
-  pack-row-reads.Asked,
-  pack-row-reads.Learnt,
-) (parse-atom-at t) parse-atom.Post
+parse-atom-parse-chain-requires : (t : ℕ) → parse-atom-lts.Need-parse-chain-requires (parse-atom-claims t) (parse-atom-at t) parse-atom.Post
 parse-atom-parse-chain-requires t c κs = let s = c .before .before .before .before .before .before .before .args .toks .now in let p = c .before .before .before .before .before .before .before .args .p in let old = c .before .before .before .before .before .before .before .args .work .now in let ready = c .before .before .before .before .before .before .before .pre .1 in
     let here : p .at < length s = omega (arith, ready .inside) in
     rw (c .past-token .ensures) (omega (arith, c .before .before .before .before .before .before .before .pre .0, ready .inside), ready-inner s p (length old) ready here)
 
-parse-atom-enum-known-why : (t : ℕ) → parse-atom-lts.Need-enum-known-why (
-  past-token-reads.Asked,
-  past-token-reads.Learnt,
-  parse-chain-below t,
-  parse-chain.Post,
-  pack-row-reads.Asked,
-  pack-row-reads.Learnt,
-) (parse-atom-at t) parse-atom.Post
+parse-atom-enum-known-why : (t : ℕ) → parse-atom-lts.Need-enum-known-why (parse-atom-claims t) (parse-atom-at t) parse-atom.Post
 parse-atom-enum-known-why t c = search needs
 
-parse-atom-same-length : (t : ℕ) → parse-atom-lts.Need-same-length (
-  past-token-reads.Asked,
-  past-token-reads.Learnt,
-  parse-chain-below t,
-  parse-chain.Post,
-  pack-row-reads.Asked,
-  pack-row-reads.Learnt,
-) (parse-atom-at t) parse-atom.Post
+parse-atom-same-length : (t : ℕ) → parse-atom-lts.Need-same-length (parse-atom-claims t) (parse-atom-at t) parse-atom.Post
 parse-atom-same-length t c = search needs
 
-parse-atom-returns-2 : (t : ℕ) → parse-atom-lts.Need-returns-2 (
-  past-token-reads.Asked,
-  past-token-reads.Learnt,
-  parse-chain-below t,
-  parse-chain.Post,
-  pack-row-reads.Asked,
-  pack-row-reads.Learnt,
-) (parse-atom-at t) parse-atom.Post
+parse-atom-returns-2 : (t : ℕ) → parse-atom-lts.Need-returns-2 (parse-atom-claims t) (parse-atom-at t) parse-atom.Post
 parse-atom-returns-2 t c = let s = c .before .before .before .before .before .before .before .before .before .before .before .before .before .args .toks .now in let p = c .before .before .before .before .before .before .before .before .before .before .before .before .before .args .p in let old = c .before .before .before .before .before .before .before .before .before .before .before .before .before .args .work .now in let ready = c .before .before .before .before .before .before .before .before .before .before .before .before .before .pre .1 in
     let here : p .at < length s = omega (arith, ready .inside) in
     atom-fails s p old here (c .before .before .before .before .before .before .before .before .if2 .taken) (c .before .before .before .before .before .parse-chain .last .1 .0) _ (c .before .why .given .0 .0) (c .before .why .given .1) (rw (c .before .before .before .before .before .before .past-token .ensures) at (c .before .before .before .before .before .parse-chain .ensures))
 
-parse-atom-enum-known-q : (t : ℕ) → parse-atom-lts.Need-enum-known-q (
-  past-token-reads.Asked,
-  past-token-reads.Learnt,
-  parse-chain-below t,
-  parse-chain.Post,
-  pack-row-reads.Asked,
-  pack-row-reads.Learnt,
-) (parse-atom-at t) parse-atom.Post
+parse-atom-enum-known-q : (t : ℕ) → parse-atom-lts.Need-enum-known-q (parse-atom-claims t) (parse-atom-at t) parse-atom.Post
 parse-atom-enum-known-q t c = search needs
 
-parse-atom-same-length-2 : (t : ℕ) → parse-atom-lts.Need-same-length-2 (
-  past-token-reads.Asked,
-  past-token-reads.Learnt,
-  parse-chain-below t,
-  parse-chain.Post,
-  pack-row-reads.Asked,
-  pack-row-reads.Learnt,
-) (parse-atom-at t) parse-atom.Post
+parse-atom-same-length-2 : (t : ℕ) → parse-atom-lts.Need-same-length-2 (parse-atom-claims t) (parse-atom-at t) parse-atom.Post
 parse-atom-same-length-2 t c = search needs
 
-parse-atom-returns-3 : (t : ℕ) → parse-atom-lts.Need-returns-3 (
-  past-token-reads.Asked,
-  past-token-reads.Learnt,
-  parse-chain-below t,
-  parse-chain.Post,
-  pack-row-reads.Asked,
-  pack-row-reads.Learnt,
-) (parse-atom-at t) parse-atom.Post
+parse-atom-returns-3 : (t : ℕ) → parse-atom-lts.Need-returns-3 (parse-atom-claims t) (parse-atom-at t) parse-atom.Post
 parse-atom-returns-3 t c = let s = c .before .before .before .before .before .before .before .before .before .before .before .before .before .before .before .args .toks .now in let p = c .before .before .before .before .before .before .before .before .before .before .before .before .before .before .before .args .p in let old = c .before .before .before .before .before .before .before .before .before .before .before .before .before .before .before .args .work .now in let ready = c .before .before .before .before .before .before .before .before .before .before .before .before .before .before .before .pre .1 in
     let here : p .at < length s = omega (arith, ready .inside) in
     atom-open s p old here (c .before .before .before .before .before .before .before .before .before .before .if2 .taken) (c .before .before .before .before .before .before .before .parse-chain .last .1 .0) _ (c .before .before .before .q .given .0 .0) (c .before .before .before .q .given .1) (rw (c .before .before .before .before .before .before .before .before .past-token .ensures) at (c .before .before .before .before .before .before .before .parse-chain .ensures)) (c .if3 .taken)
 
-parse-atom-past-token-requires-2 : (t : ℕ) → parse-atom-lts.Need-past-token-requires-2 (
-  past-token-reads.Asked,
-  past-token-reads.Learnt,
-  parse-chain-below t,
-  parse-chain.Post,
-  pack-row-reads.Asked,
-  pack-row-reads.Learnt,
-) (parse-atom-at t) parse-atom.Post
+parse-atom-past-token-requires-2 : (t : ℕ) → parse-atom-lts.Need-past-token-requires-2 (parse-atom-claims t) (parse-atom-at t) parse-atom.Post
 parse-atom-past-token-requires-2 t c κs = let s = c .before .before .before .before .before .before .before .before .before .before .before .before .before .before .before .args .toks .now in let p = c .before .before .before .before .before .before .before .before .before .before .before .before .before .before .before .args .p in let old = c .before .before .before .before .before .before .before .before .before .before .before .before .before .before .before .args .work .now in let ready = c .before .before .before .before .before .before .before .before .before .before .before .before .before .before .before .pre .1 in
     let h = rw (c .before .before .before .q .given .1) at (c .before .before .before .before .before .before .before .parse-chain .ensures) in let w = h .2 .within in omega (arith, w .inside, ready .short)
 
-parse-atom-same-length-3 : (t : ℕ) → parse-atom-lts.Need-same-length-3 (
-  past-token-reads.Asked,
-  past-token-reads.Learnt,
-  parse-chain-below t,
-  parse-chain.Post,
-  pack-row-reads.Asked,
-  pack-row-reads.Learnt,
-) (parse-atom-at t) parse-atom.Post
+parse-atom-same-length-3 : (t : ℕ) → parse-atom-lts.Need-same-length-3 (parse-atom-claims t) (parse-atom-at t) parse-atom.Post
 parse-atom-same-length-3 t c = search needs
 
-parse-atom-returns-4 : (t : ℕ) → parse-atom-lts.Need-returns-4 (
-  past-token-reads.Asked,
-  past-token-reads.Learnt,
-  parse-chain-below t,
-  parse-chain.Post,
-  pack-row-reads.Asked,
-  pack-row-reads.Learnt,
-) (parse-atom-at t) parse-atom.Post
+parse-atom-returns-4 : (t : ℕ) → parse-atom-lts.Need-returns-4 (parse-atom-claims t) (parse-atom-at t) parse-atom.Post
 parse-atom-returns-4 t c = let s = c .before .before .before .before .before .before .before .before .before .before .before .before .before .before .before .before .args .toks .now in let p = c .before .before .before .before .before .before .before .before .before .before .before .before .before .before .before .before .args .p in let old = c .before .before .before .before .before .before .before .before .before .before .before .before .before .before .before .before .args .work .now in let ready = c .before .before .before .before .before .before .before .before .before .before .before .before .before .before .before .before .pre .1 in
     let here : p .at < length s = omega (arith, ready .inside) in
     rw (c .past-token2 .ensures) (atom-grouped s p old here (c .before .before .before .before .before .before .before .before .before .before .before .if2 .taken) (c .before .before .before .before .before .before .before .before .parse-chain .last .1 .0) _ (c .before .before .before .before .q .given .0 .0) (c .before .before .before .before .q .given .1) (rw (c .before .before .before .before .before .before .before .before .before .past-token .ensures) at (c .before .before .before .before .before .before .before .before .parse-chain .ensures)) (c .before .if3 .left))
 
-parse-atom-returns-5 : (t : ℕ) → parse-atom-lts.Need-returns-5 (
-  past-token-reads.Asked,
-  past-token-reads.Learnt,
-  parse-chain-below t,
-  parse-chain.Post,
-  pack-row-reads.Asked,
-  pack-row-reads.Learnt,
-) (parse-atom-at t) parse-atom.Post
+parse-atom-returns-5 : (t : ℕ) → parse-atom-lts.Need-returns-5 (parse-atom-claims t) (parse-atom-at t) parse-atom.Post
 parse-atom-returns-5 t c = let s = c .before .before .before .before .before .before .args .toks .now in let p = c .before .before .before .before .before .before .args .p in let old = c .before .before .before .before .before .before .args .work .now in let ready = c .before .before .before .before .before .before .pre .1 in
     let here : p .at < length s = omega (arith, ready .inside) in
     atom-none s p old here (c .before .if2 .left) (c .if4 .taken)
 
-parse-atom-pack-row-requires : (t : ℕ) → parse-atom-lts.Need-pack-row-requires (
-  past-token-reads.Asked,
-  past-token-reads.Learnt,
-  parse-chain-below t,
-  parse-chain.Post,
-  pack-row-reads.Asked,
-  pack-row-reads.Learnt,
-) (parse-atom-at t) parse-atom.Post
+parse-atom-pack-row-requires : (t : ℕ) → parse-atom-lts.Need-pack-row-requires (parse-atom-claims t) (parse-atom-at t) parse-atom.Post
 parse-atom-pack-row-requires t c κs = let s = c .before .before .before .before .before .before .args .toks .now in let p = c .before .before .before .before .before .before .args .p in let old = c .before .before .before .before .before .before .args .work .now in let ready = c .before .before .before .before .before .before .pre .1 in
     let here : p .at < length s = omega (arith, ready .inside) in
     let z = cites-cite s (p .at) here (c .if4 .left) in
     (omega (arith, ready .few, z), omega arith)
 
-parse-atom-mul-work : (t : ℕ) → parse-atom-lts.Need-mul-work (
-  past-token-reads.Asked,
-  past-token-reads.Learnt,
-  parse-chain-below t,
-  parse-chain.Post,
-  pack-row-reads.Asked,
-  pack-row-reads.Learnt,
-) (parse-atom-at t) parse-atom.Post
+parse-atom-mul-work : (t : ℕ) → parse-atom-lts.Need-mul-work (parse-atom-claims t) (parse-atom-at t) parse-atom.Post
 parse-atom-mul-work t c = search needs
 
-parse-atom-slice-write-work : (t : ℕ) → parse-atom-lts.Need-slice-write-work (
-  past-token-reads.Asked,
-  past-token-reads.Learnt,
-  parse-chain-below t,
-  parse-chain.Post,
-  pack-row-reads.Asked,
-  pack-row-reads.Learnt,
-) (parse-atom-at t) parse-atom.Post
+parse-atom-slice-write-work : (t : ℕ) → parse-atom-lts.Need-slice-write-work (parse-atom-claims t) (parse-atom-at t) parse-atom.Post
 parse-atom-slice-write-work t c = let s = c .before .before .before .before .before .before .before .args .toks .now in let p = c .before .before .before .before .before .before .before .args .p in let old = c .before .before .before .before .before .before .before .args .work .now in let ready = c .before .before .before .before .before .before .before .pre .1 in
     let here : p .at < length s = omega (arith, ready .inside) in
     let z = cites-cite s (p .at) here (c .before .if4 .left) in
     omega (arith, ready .space, z)
 
-parse-atom-add-t9 : (t : ℕ) → parse-atom-lts.Need-add-t9 (
-  past-token-reads.Asked,
-  past-token-reads.Learnt,
-  parse-chain-below t,
-  parse-chain.Post,
-  pack-row-reads.Asked,
-  pack-row-reads.Learnt,
-) (parse-atom-at t) parse-atom.Post
+parse-atom-add-t9 : (t : ℕ) → parse-atom-lts.Need-add-t9 (parse-atom-claims t) (parse-atom-at t) parse-atom.Post
 parse-atom-add-t9 t c = search needs
 
-parse-atom-add-t25 : (t : ℕ) → parse-atom-lts.Need-add-t25 (
-  past-token-reads.Asked,
-  past-token-reads.Learnt,
-  parse-chain-below t,
-  parse-chain.Post,
-  pack-row-reads.Asked,
-  pack-row-reads.Learnt,
-) (parse-atom-at t) parse-atom.Post
+parse-atom-add-t25 : (t : ℕ) → parse-atom-lts.Need-add-t25 (parse-atom-claims t) (parse-atom-at t) parse-atom.Post
 parse-atom-add-t25 t c = search needs
 
-parse-atom-add-t26 : (t : ℕ) → parse-atom-lts.Need-add-t26 (
-  past-token-reads.Asked,
-  past-token-reads.Learnt,
-  parse-chain-below t,
-  parse-chain.Post,
-  pack-row-reads.Asked,
-  pack-row-reads.Learnt,
-) (parse-atom-at t) parse-atom.Post
+parse-atom-add-t26 : (t : ℕ) → parse-atom-lts.Need-add-t26 (parse-atom-claims t) (parse-atom-at t) parse-atom.Post
 parse-atom-add-t26 t c = search needs
 
-parse-atom-same-length-4 : (t : ℕ) → parse-atom-lts.Need-same-length-4 (
-  past-token-reads.Asked,
-  past-token-reads.Learnt,
-  parse-chain-below t,
-  parse-chain.Post,
-  pack-row-reads.Asked,
-  pack-row-reads.Learnt,
-) (parse-atom-at t) parse-atom.Post
+parse-atom-same-length-4 : (t : ℕ) → parse-atom-lts.Need-same-length-4 (parse-atom-claims t) (parse-atom-at t) parse-atom.Post
 parse-atom-same-length-4 t c = search needs
 
-parse-atom-returns-6 : (t : ℕ) → parse-atom-lts.Need-returns-6 (
-  past-token-reads.Asked,
-  past-token-reads.Learnt,
-  parse-chain-below t,
-  parse-chain.Post,
-  pack-row-reads.Asked,
-  pack-row-reads.Learnt,
-) (parse-atom-at t) parse-atom.Post
+parse-atom-returns-6 : (t : ℕ) → parse-atom-lts.Need-returns-6 (parse-atom-claims t) (parse-atom-at t) parse-atom.Post
 parse-atom-returns-6 t c = let s = c .before .before .before .before .before .before .before .before .args .toks .now in let p = c .before .before .before .before .before .before .before .before .args .p in let old = c .before .before .before .before .before .before .before .before .args .work .now in let ready = c .before .before .before .before .before .before .before .before .pre .1 in
     let here : p .at < length s = omega (arith, ready .inside) in
     let z = cites-cite s (p .at) here (c .before .before .if4 .left) in
@@ -332,7 +189,9 @@ parse-chain-parse-juxtaposition-requires :
 parse-chain-parse-juxtaposition-requires t c κs = let s = c .before .before .before .args .toks .now in let p = c .before .before .before .args .p in let old = c .before .before .before .args .work .now in let ready = c .before .before .before .pre .1 in
     (omega (arith, c .before .before .before .pre .0), ready)
 
-parse-chain-enum-known-why : (t : ℕ) → parse-chain-lts.Need-enum-known-why (
+-- what is asked of the functions that are called, and what is learnt from them
+abbrev parse-chain-claims : ℕ → parse-chain-lts.Claims
+parse-chain-claims t = (
   parse-juxtaposition-below t,
   parse-juxtaposition.Post,
   op-at-reads.Asked,
@@ -341,82 +200,30 @@ parse-chain-enum-known-why : (t : ℕ) → parse-chain-lts.Need-enum-known-why (
   led-reads.Learnt,
   grow-reads.Asked,
   grow-reads.Learnt,
-) (parse-chain-at t) parse-chain.Post parse-chain-Inv-loop parse-chain-μ-loop
+)
+
+parse-chain-enum-known-why : (t : ℕ) → parse-chain-lts.Need-enum-known-why (parse-chain-claims t) (parse-chain-at t) parse-chain.Post parse-chain-Inv-loop parse-chain-μ-loop
 parse-chain-enum-known-why t c = search needs
 
-parse-chain-enum-known-lead : (t : ℕ) → parse-chain-lts.Need-enum-known-lead (
-  parse-juxtaposition-below t,
-  parse-juxtaposition.Post,
-  op-at-reads.Asked,
-  op-at-reads.Learnt,
-  led-reads.Asked,
-  led-reads.Learnt,
-  grow-reads.Asked,
-  grow-reads.Learnt,
-) (parse-chain-at t) parse-chain.Post parse-chain-Inv-loop parse-chain-μ-loop
+parse-chain-enum-known-lead : (t : ℕ) → parse-chain-lts.Need-enum-known-lead (parse-chain-claims t) (parse-chain-at t) parse-chain.Post parse-chain-Inv-loop parse-chain-μ-loop
 parse-chain-enum-known-lead t c = search needs
 
-parse-chain-op-at-requires : (t : ℕ) → parse-chain-lts.Need-op-at-requires (
-  parse-juxtaposition-below t,
-  parse-juxtaposition.Post,
-  op-at-reads.Asked,
-  op-at-reads.Learnt,
-  led-reads.Asked,
-  led-reads.Learnt,
-  grow-reads.Asked,
-  grow-reads.Learnt,
-) (parse-chain-at t) parse-chain.Post parse-chain-Inv-loop parse-chain-μ-loop
+parse-chain-op-at-requires : (t : ℕ) → parse-chain-lts.Need-op-at-requires (parse-chain-claims t) (parse-chain-at t) parse-chain.Post parse-chain-Inv-loop parse-chain-μ-loop
 parse-chain-op-at-requires t c κs = search needs
 
-parse-chain-same-length : (t : ℕ) → parse-chain-lts.Need-same-length (
-  parse-juxtaposition-below t,
-  parse-juxtaposition.Post,
-  op-at-reads.Asked,
-  op-at-reads.Learnt,
-  led-reads.Asked,
-  led-reads.Learnt,
-  grow-reads.Asked,
-  grow-reads.Learnt,
-) (parse-chain-at t) parse-chain.Post parse-chain-Inv-loop parse-chain-μ-loop
+parse-chain-same-length : (t : ℕ) → parse-chain-lts.Need-same-length (parse-chain-claims t) (parse-chain-at t) parse-chain.Post parse-chain-Inv-loop parse-chain-μ-loop
 parse-chain-same-length t c = search needs
 
-parse-chain-returns : (t : ℕ) → parse-chain-lts.Need-returns (
-  parse-juxtaposition-below t,
-  parse-juxtaposition.Post,
-  op-at-reads.Asked,
-  op-at-reads.Learnt,
-  led-reads.Asked,
-  led-reads.Learnt,
-  grow-reads.Asked,
-  grow-reads.Learnt,
-) (parse-chain-at t) parse-chain.Post parse-chain-Inv-loop parse-chain-μ-loop
+parse-chain-returns : (t : ℕ) → parse-chain-lts.Need-returns (parse-chain-claims t) (parse-chain-at t) parse-chain.Post parse-chain-Inv-loop parse-chain-μ-loop
 parse-chain-returns t c = let s = c .before .before .before .before .before .before .before .before .before .before .before .args .toks .now in let p = c .before .before .before .before .before .before .before .before .before .before .before .args .p in let old = c .before .before .before .before .before .before .before .before .before .before .before .args .work .now in let ready = c .before .before .before .before .before .before .before .before .before .before .before .pre .1 in
     chain-alone s p old (c .before .before .before .before .before .before .before .parse-juxtaposition .last .1 .0) _ (c .before .before .before .lead .given .0 .0) (c .before .before .before .lead .given .1) (c .before .before .before .before .before .before .before .parse-juxtaposition .ensures) (sym (c .if1 .taken) ∙ c .before .op-at .ensures)
 
-parse-chain-led-requires : (t : ℕ) → parse-chain-lts.Need-led-requires (
-  parse-juxtaposition-below t,
-  parse-juxtaposition.Post,
-  op-at-reads.Asked,
-  op-at-reads.Learnt,
-  led-reads.Asked,
-  led-reads.Learnt,
-  grow-reads.Asked,
-  grow-reads.Learnt,
-) (parse-chain-at t) parse-chain.Post parse-chain-Inv-loop parse-chain-μ-loop
+parse-chain-led-requires : (t : ℕ) → parse-chain-lts.Need-led-requires (parse-chain-claims t) (parse-chain-at t) parse-chain.Post parse-chain-Inv-loop parse-chain-μ-loop
 parse-chain-led-requires t c κs = let s = c .before .before .before .before .before .before .before .before .before .before .before .args .toks .now in let p = c .before .before .before .before .before .before .before .before .before .before .before .args .p in let old = c .before .before .before .before .before .before .before .before .before .before .before .args .work .now in let ready = c .before .before .before .before .before .before .before .before .before .before .before .pre .1 in
     let h : JuxSays s p old (c .before .before .before .before .before .before .before .parse-juxtaposition .last .1 .0) (On (c .before .before .before .lead .given .0 .0)) = rw (c .before .before .before .lead .given .1) at (c .before .before .before .before .before .before .before .parse-juxtaposition .ensures) in
     (omega (arith, tree-grew s p (c .before .before .before .before .before .before .before .parse-juxtaposition .last .1 .0) (c .before .before .before .lead .given .0 .0) (h .0) (h .2)), omega (arith, h .2 .within .inside, ready .short))
 
-parse-chain-loop-holds : (t : ℕ) → parse-chain-lts.Need-loop-holds (
-  parse-juxtaposition-below t,
-  parse-juxtaposition.Post,
-  op-at-reads.Asked,
-  op-at-reads.Learnt,
-  led-reads.Asked,
-  led-reads.Learnt,
-  grow-reads.Asked,
-  grow-reads.Learnt,
-) (parse-chain-at t) parse-chain.Post parse-chain-Inv-loop parse-chain-μ-loop
+parse-chain-loop-holds : (t : ℕ) → parse-chain-lts.Need-loop-holds (parse-chain-claims t) (parse-chain-at t) parse-chain.Post parse-chain-Inv-loop parse-chain-μ-loop
 parse-chain-loop-holds t c = let s = c .before .before .before .before .before .before .before .before .before .before .before .before .args .toks .now in let p = c .before .before .before .before .before .before .before .before .before .before .before .before .args .p in let old = c .before .before .before .before .before .before .before .before .before .before .before .before .args .work .now in let ready = c .before .before .before .before .before .before .before .before .before .before .before .before .pre .1 in
     let st = chain-starts s p old (c .before .before .before .before .before .before .before .before .parse-juxtaposition .last .1 .0) _ (c .before .before .before .before .lead .given .0 .0) (c .before .before .before .before .lead .given .1) (c .before .before .before .before .before .before .before .before .parse-juxtaposition .ensures) (c .before .before .op-at .result) (c .before .before .op-at .ensures) (c .before .if1 .left) in
     (before-turn s p (c .before .before .before .before .before .before .before .before .parse-juxtaposition .last .1 .0) (c .before .before .op-at .result) _ (rw (c .led .ensures) (st .0)) (c .before .if1 .left), refl, refl)
@@ -438,94 +245,31 @@ parse-chain-parse-juxtaposition-requires-2 t c κs = let s = c .before .before .
     let b = turn-before s p work op q (inv .0) (c .before .loop-test .taken) in
     (omega (arith, c .before .before .before .before .before .before .before .before .before .before .before .before .before .before .before .pre .0, b .within .later), ready-on s p (length old) (length work) q (q .kids) ready kept (b .within))
 
-parse-chain-enum-known-why-2 : (t : ℕ) → parse-chain-lts.Need-enum-known-why-2 (
-  parse-juxtaposition-below t,
-  parse-juxtaposition.Post,
-  op-at-reads.Asked,
-  op-at-reads.Learnt,
-  led-reads.Asked,
-  led-reads.Learnt,
-  grow-reads.Asked,
-  grow-reads.Learnt,
-) (parse-chain-at t) parse-chain.Post parse-chain-Inv-loop parse-chain-μ-loop
+parse-chain-enum-known-why-2 : (t : ℕ) → parse-chain-lts.Need-enum-known-why-2 (parse-chain-claims t) (parse-chain-at t) parse-chain.Post parse-chain-Inv-loop parse-chain-μ-loop
 parse-chain-enum-known-why-2 t c = search needs
 
-parse-chain-same-length-2 : (t : ℕ) → parse-chain-lts.Need-same-length-2 (
-  parse-juxtaposition-below t,
-  parse-juxtaposition.Post,
-  op-at-reads.Asked,
-  op-at-reads.Learnt,
-  led-reads.Asked,
-  led-reads.Learnt,
-  grow-reads.Asked,
-  grow-reads.Learnt,
-) (parse-chain-at t) parse-chain.Post parse-chain-Inv-loop parse-chain-μ-loop
+parse-chain-same-length-2 : (t : ℕ) → parse-chain-lts.Need-same-length-2 (parse-chain-claims t) (parse-chain-at t) parse-chain.Post parse-chain-Inv-loop parse-chain-μ-loop
 parse-chain-same-length-2 t c = search needs
 
-parse-chain-returns-2 : (t : ℕ) → parse-chain-lts.Need-returns-2 (
-  parse-juxtaposition-below t,
-  parse-juxtaposition.Post,
-  op-at-reads.Asked,
-  op-at-reads.Learnt,
-  led-reads.Asked,
-  led-reads.Learnt,
-  grow-reads.Asked,
-  grow-reads.Learnt,
-) (parse-chain-at t) parse-chain.Post parse-chain-Inv-loop parse-chain-μ-loop
+parse-chain-returns-2 : (t : ℕ) → parse-chain-lts.Need-returns-2 (parse-chain-claims t) (parse-chain-at t) parse-chain.Post parse-chain-Inv-loop parse-chain-μ-loop
 parse-chain-returns-2 t c = let s = c .before .before .before .before .before .before .before .before .before .before .before .before .before .before .before .before .before .before .before .before .before .args .toks .now in let p = c .before .before .before .before .before .before .before .before .before .before .before .before .before .before .before .before .before .before .before .before .before .args .p in let old = c .before .before .before .before .before .before .before .before .before .before .before .before .before .before .before .before .before .before .before .before .before .args .work .now in let ready = c .before .before .before .before .before .before .before .before .before .before .before .before .before .before .before .before .before .before .before .before .before .pre .1 in
     let work = c .before .before .before .before .before .before .before .before .loop .work in let q = c .before .before .before .before .before .before .before .before .loop .q in let op = c .before .before .before .before .before .before .before .before .loop .op in let inv = c .before .before .before .before .before .before .before .before .loop .inv in
     let b = turn-before s p work op q (inv .0) (c .before .before .before .before .before .before .before .loop-test .taken) in
     chain-breaks s p work q b old (c .before .before .before .before .before .parse-juxtaposition2 .last .1 .0) _ (c .before .why2 .given .0 .0) (c .before .why2 .given .1) (c .before .before .before .before .before .parse-juxtaposition2 .ensures)
 
-parse-chain-enum-known-next : (t : ℕ) → parse-chain-lts.Need-enum-known-next (
-  parse-juxtaposition-below t,
-  parse-juxtaposition.Post,
-  op-at-reads.Asked,
-  op-at-reads.Learnt,
-  led-reads.Asked,
-  led-reads.Learnt,
-  grow-reads.Asked,
-  grow-reads.Learnt,
-) (parse-chain-at t) parse-chain.Post parse-chain-Inv-loop parse-chain-μ-loop
+parse-chain-enum-known-next : (t : ℕ) → parse-chain-lts.Need-enum-known-next (parse-chain-claims t) (parse-chain-at t) parse-chain.Post parse-chain-Inv-loop parse-chain-μ-loop
 parse-chain-enum-known-next t c = search needs
 
-parse-chain-op-at-requires-2 : (t : ℕ) → parse-chain-lts.Need-op-at-requires-2 (
-  parse-juxtaposition-below t,
-  parse-juxtaposition.Post,
-  op-at-reads.Asked,
-  op-at-reads.Learnt,
-  led-reads.Asked,
-  led-reads.Learnt,
-  grow-reads.Asked,
-  grow-reads.Learnt,
-) (parse-chain-at t) parse-chain.Post parse-chain-Inv-loop parse-chain-μ-loop
+parse-chain-op-at-requires-2 : (t : ℕ) → parse-chain-lts.Need-op-at-requires-2 (parse-chain-claims t) (parse-chain-at t) parse-chain.Post parse-chain-Inv-loop parse-chain-μ-loop
 parse-chain-op-at-requires-2 t c κs = search needs
 
-parse-chain-add-t20 : (t : ℕ) → parse-chain-lts.Need-add-t20 (
-  parse-juxtaposition-below t,
-  parse-juxtaposition.Post,
-  op-at-reads.Asked,
-  op-at-reads.Learnt,
-  led-reads.Asked,
-  led-reads.Learnt,
-  grow-reads.Asked,
-  grow-reads.Learnt,
-) (parse-chain-at t) parse-chain.Post parse-chain-Inv-loop parse-chain-μ-loop
+parse-chain-add-t20 : (t : ℕ) → parse-chain-lts.Need-add-t20 (parse-chain-claims t) (parse-chain-at t) parse-chain.Post parse-chain-Inv-loop parse-chain-μ-loop
 parse-chain-add-t20 t c = let s = c .before .before .before .before .before .before .before .before .before .before .before .before .before .before .before .before .before .before .before .before .before .before .before .args .toks .now in let p = c .before .before .before .before .before .before .before .before .before .before .before .before .before .before .before .before .before .before .before .before .before .before .before .args .p in let old = c .before .before .before .before .before .before .before .before .before .before .before .before .before .before .before .before .before .before .before .before .before .before .before .args .work .now in let ready = c .before .before .before .before .before .before .before .before .before .before .before .before .before .before .before .before .before .before .before .before .before .before .before .pre .1 in
     let work = c .before .before .before .before .before .before .before .before .before .before .loop .work in let q = c .before .before .before .before .before .before .before .before .before .before .loop .q in let op = c .before .before .before .before .before .before .before .before .before .before .loop .op in let inv = c .before .before .before .before .before .before .before .before .before .before .loop .inv in
     let b = turn-before s p work op q (inv .0) (c .before .before .before .before .before .before .before .before .before .loop-test .taken) in
     let w = b .within in omega (arith, w .few, w .left, ready .few)
 
-parse-chain-grow-requires : (t : ℕ) → parse-chain-lts.Need-grow-requires (
-  parse-juxtaposition-below t,
-  parse-juxtaposition.Post,
-  op-at-reads.Asked,
-  op-at-reads.Learnt,
-  led-reads.Asked,
-  led-reads.Learnt,
-  grow-reads.Asked,
-  grow-reads.Learnt,
-) (parse-chain-at t) parse-chain.Post parse-chain-Inv-loop parse-chain-μ-loop
+parse-chain-grow-requires : (t : ℕ) → parse-chain-lts.Need-grow-requires (parse-chain-claims t) (parse-chain-at t) parse-chain.Post parse-chain-Inv-loop parse-chain-μ-loop
 parse-chain-grow-requires t c κs = let s = c .before .before .before .before .before .before .before .before .before .before .before .before .before .before .before .before .before .before .before .before .before .before .before .before .args .toks .now in let p = c .before .before .before .before .before .before .before .before .before .before .before .before .before .before .before .before .before .before .before .before .before .before .before .before .args .p in let old = c .before .before .before .before .before .before .before .before .before .before .before .before .before .before .before .before .before .before .before .before .before .before .before .before .args .work .now in let ready = c .before .before .before .before .before .before .before .before .before .before .before .before .before .before .before .before .before .before .before .before .before .before .before .before .pre .1 in
     let work = c .before .before .before .before .before .before .before .before .before .before .before .loop .work in let q = c .before .before .before .before .before .before .before .before .before .before .before .loop .q in let op = c .before .before .before .before .before .before .before .before .before .before .before .loop .op in let inv = c .before .before .before .before .before .before .before .before .before .before .before .loop .inv in
     let b = turn-before s p work op q (inv .0) (c .before .before .before .before .before .before .before .before .before .before .loop-test .taken) in
@@ -534,31 +278,13 @@ parse-chain-grow-requires t c κs = let s = c .before .before .before .before .b
     let kept2 : length (c .before .before .before .before .before .before .before .before .parse-juxtaposition2 .last .1 .0) ≡ length old = omega (arith, inv .2, c .before .before .before .before .before .before .before .before .before .before .before .before .before .before .before .before .before .before .before .before .parse-juxtaposition .kept, c .before .before .before .before .before .before .before .before .parse-juxtaposition2 .kept) in
     (go .0 .within .above, omega (arith, room .0, kept2), room .1, room .2, omega (arith, go .0 .within .inside, ready .short), kind-pos s p (c .before .before .before .before .before .before .before .before .parse-juxtaposition2 .last .1 .0) (record { at = n .at; rows = n .rows; cites = n .cites; kind = q .kind; kids = q .kids + 1 }) (go .0) (omega (arith, room .0, kept2)))
 
-parse-chain-loop-less : (t : ℕ) → parse-chain-lts.Need-loop-less (
-  parse-juxtaposition-below t,
-  parse-juxtaposition.Post,
-  op-at-reads.Asked,
-  op-at-reads.Learnt,
-  led-reads.Asked,
-  led-reads.Learnt,
-  grow-reads.Asked,
-  grow-reads.Learnt,
-) (parse-chain-at t) parse-chain.Post parse-chain-Inv-loop parse-chain-μ-loop
+parse-chain-loop-less : (t : ℕ) → parse-chain-lts.Need-loop-less (parse-chain-claims t) (parse-chain-at t) parse-chain.Post parse-chain-Inv-loop parse-chain-μ-loop
 parse-chain-loop-less t c = let s = c .before .before .before .before .before .before .before .before .before .before .before .before .before .before .before .before .before .before .before .before .before .before .before .before .before .before .before .args .toks .now in let p = c .before .before .before .before .before .before .before .before .before .before .before .before .before .before .before .before .before .before .before .before .before .before .before .before .before .before .before .args .p in let old = c .before .before .before .before .before .before .before .before .before .before .before .before .before .before .before .before .before .before .before .before .before .before .before .before .before .before .before .args .work .now in let ready = c .before .before .before .before .before .before .before .before .before .before .before .before .before .before .before .before .before .before .before .before .before .before .before .before .before .before .before .pre .1 in
     let work = c .before .before .before .before .before .before .before .before .before .before .before .before .before .before .loop .work in let q = c .before .before .before .before .before .before .before .before .before .before .before .before .before .before .loop .q in let op = c .before .before .before .before .before .before .before .before .before .before .before .before .before .before .loop .op in let inv = c .before .before .before .before .before .before .before .before .before .before .before .before .before .before .loop .inv in
     let h = rw (c .before .before .before .before .before .before .before .next .given .1) at (c .before .before .before .before .before .before .before .before .before .before .before .parse-juxtaposition2 .ensures) in let w = h .2 .within in let n = c .before .before .before .before .before .before .before .next .given .0 .0 in
     let l = grown-later (record { at = n .at; rows = n .rows; cites = n .cites; kind = q .kind; kids = q .kids + 1 }) (c .before .before .before .before .before .op-at2 .result) in rw (c .before .before .grow .ensures .0) (omega (arith, w .later, w .inside, l))
 
-parse-chain-loop-again : (t : ℕ) → parse-chain-lts.Need-loop-again (
-  parse-juxtaposition-below t,
-  parse-juxtaposition.Post,
-  op-at-reads.Asked,
-  op-at-reads.Learnt,
-  led-reads.Asked,
-  led-reads.Learnt,
-  grow-reads.Asked,
-  grow-reads.Learnt,
-) (parse-chain-at t) parse-chain.Post parse-chain-Inv-loop parse-chain-μ-loop
+parse-chain-loop-again : (t : ℕ) → parse-chain-lts.Need-loop-again (parse-chain-claims t) (parse-chain-at t) parse-chain.Post parse-chain-Inv-loop parse-chain-μ-loop
 parse-chain-loop-again t c = let s = c .before .before .before .before .before .before .before .before .before .before .before .before .before .before .before .before .before .before .before .before .before .before .before .before .before .before .before .args .toks .now in let p = c .before .before .before .before .before .before .before .before .before .before .before .before .before .before .before .before .before .before .before .before .before .before .before .before .before .before .before .args .p in let old = c .before .before .before .before .before .before .before .before .before .before .before .before .before .before .before .before .before .before .before .before .before .before .before .before .before .before .before .args .work .now in let ready = c .before .before .before .before .before .before .before .before .before .before .before .before .before .before .before .before .before .before .before .before .before .before .before .before .before .before .before .pre .1 in
     let work = c .before .before .before .before .before .before .before .before .before .before .before .before .before .before .loop .work in let q = c .before .before .before .before .before .before .before .before .before .before .before .before .before .before .loop .q in let op = c .before .before .before .before .before .before .before .before .before .before .before .before .before .before .loop .op in let inv = c .before .before .before .before .before .before .before .before .before .before .before .before .before .before .loop .inv in
     let b = turn-before s p work op q (inv .0) (c .before .before .before .before .before .before .before .before .before .before .before .before .before .loop-test .taken) in
@@ -568,53 +294,17 @@ parse-chain-loop-again t c = let s = c .before .before .before .before .before .
     let fits : n .rows < length (c .before .before .before .before .before .before .before .before .before .before .before .parse-juxtaposition2 .last .1 .0) = omega (arith, room .0, kept2) in
     (rw (c .before .before .grow .ensures .0, c .before .before .grow .ensures .1) (chain-turns s p (c .before .before .before .before .before .before .before .before .before .before .before .parse-juxtaposition2 .last .1 .0) (record { at = n .at; rows = n .rows; cites = n .cites; kind = q .kind; kids = q .kids + 1 }) (go .0) fits (c .before .before .before .before .before .op-at2 .result) (c .before .before .before .before .before .op-at2 .ensures)), rw (c .before .before .grow .ensures .1) (chain-front s p (c .before .before .before .before .before .before .before .before .before .before .before .parse-juxtaposition2 .last .1 .0) (record { at = n .at; rows = n .rows; cites = n .cites; kind = q .kind; kids = q .kids + 1 }) (go .0) fits (c .before .before .before .before .before .op-at2 .result)) ∙ go .1 ∙ inv .1, omega (arith, inv .2, c .before .before .before .before .before .before .before .before .before .before .before .parse-juxtaposition2 .kept, c .before .before .grow .kept))
 
-parse-chain-same-length-3 : (t : ℕ) → parse-chain-lts.Need-same-length-3 (
-  parse-juxtaposition-below t,
-  parse-juxtaposition.Post,
-  op-at-reads.Asked,
-  op-at-reads.Learnt,
-  led-reads.Asked,
-  led-reads.Learnt,
-  grow-reads.Asked,
-  grow-reads.Learnt,
-) (parse-chain-at t) parse-chain.Post parse-chain-Inv-loop parse-chain-μ-loop
+parse-chain-same-length-3 : (t : ℕ) → parse-chain-lts.Need-same-length-3 (parse-chain-claims t) (parse-chain-at t) parse-chain.Post parse-chain-Inv-loop parse-chain-μ-loop
 parse-chain-same-length-3 t c = search needs
 
-parse-chain-returns-3 : (t : ℕ) → parse-chain-lts.Need-returns-3 (
-  parse-juxtaposition-below t,
-  parse-juxtaposition.Post,
-  op-at-reads.Asked,
-  op-at-reads.Learnt,
-  led-reads.Asked,
-  led-reads.Learnt,
-  grow-reads.Asked,
-  grow-reads.Learnt,
-) (parse-chain-at t) parse-chain.Post parse-chain-Inv-loop parse-chain-μ-loop
+parse-chain-returns-3 : (t : ℕ) → parse-chain-lts.Need-returns-3 (parse-chain-claims t) (parse-chain-at t) parse-chain.Post parse-chain-Inv-loop parse-chain-μ-loop
 parse-chain-returns-3 t c = let s = c .before .before .before .before .before .before .before .before .before .args .toks .now in let p = c .before .before .before .before .before .before .before .before .before .args .p in let old = c .before .before .before .before .before .before .before .before .before .args .work .now in let ready = c .before .before .before .before .before .before .before .before .before .pre .1 in
     chain-passes s p old (c .before .before .before .before .before .parse-juxtaposition .last .1 .0) _ (c .before .why .given .0 .0) (c .before .why .given .1) (c .before .before .before .before .before .parse-juxtaposition .ensures)
 
-parse-chain-same-length-4 : (t : ℕ) → parse-chain-lts.Need-same-length-4 (
-  parse-juxtaposition-below t,
-  parse-juxtaposition.Post,
-  op-at-reads.Asked,
-  op-at-reads.Learnt,
-  led-reads.Asked,
-  led-reads.Learnt,
-  grow-reads.Asked,
-  grow-reads.Learnt,
-) (parse-chain-at t) parse-chain.Post parse-chain-Inv-loop parse-chain-μ-loop
+parse-chain-same-length-4 : (t : ℕ) → parse-chain-lts.Need-same-length-4 (parse-chain-claims t) (parse-chain-at t) parse-chain.Post parse-chain-Inv-loop parse-chain-μ-loop
 parse-chain-same-length-4 t c = search needs
 
-parse-chain-returns-4 : (t : ℕ) → parse-chain-lts.Need-returns-4 (
-  parse-juxtaposition-below t,
-  parse-juxtaposition.Post,
-  op-at-reads.Asked,
-  op-at-reads.Learnt,
-  led-reads.Asked,
-  led-reads.Learnt,
-  grow-reads.Asked,
-  grow-reads.Learnt,
-) (parse-chain-at t) parse-chain.Post parse-chain-Inv-loop parse-chain-μ-loop
+parse-chain-returns-4 : (t : ℕ) → parse-chain-lts.Need-returns-4 (parse-chain-claims t) (parse-chain-at t) parse-chain.Post parse-chain-Inv-loop parse-chain-μ-loop
 parse-chain-returns-4 t c = let s = c .before .before .before .before .before .before .before .before .before .before .before .before .before .before .args .toks .now in let p = c .before .before .before .before .before .before .before .before .before .before .before .before .before .before .args .p in let old = c .before .before .before .before .before .before .before .before .before .before .before .before .before .before .args .work .now in let ready = c .before .before .before .before .before .before .before .before .before .before .before .before .before .before .pre .1 in
     let st = chain-starts s p old (c .before .before .before .before .before .before .before .before .before .before .parse-juxtaposition .last .1 .0) _ (c .before .before .before .before .before .before .lead .given .0 .0) (c .before .before .before .before .before .before .lead .given .1) (c .before .before .before .before .before .before .before .before .before .before .parse-juxtaposition .ensures) (c .before .before .before .before .op-at .result) (c .before .before .before .before .op-at .ensures) (c .before .before .before .if1 .left) in
     let work = c .before .loop .work in let q = c .before .loop .q in let op = c .before .loop .op in let inv = c .before .loop .inv in
@@ -643,7 +333,9 @@ parse-juxtaposition-parse-atom-requires :
 parse-juxtaposition-parse-atom-requires t c κs = let s = c .before .before .before .args .toks .now in let p = c .before .before .before .args .p in let old = c .before .before .before .args .work .now in let ready = c .before .before .before .pre .1 in
     (omega (arith, c .before .before .before .pre .0), ready)
 
-parse-juxtaposition-enum-known-why : (t : ℕ) → parse-juxtaposition-lts.Need-enum-known-why (
+-- what is asked of the functions that are called, and what is learnt from them
+abbrev parse-juxtaposition-claims : ℕ → parse-juxtaposition-lts.Claims
+parse-juxtaposition-claims t = (
   parse-atom-below t,
   parse-atom.Post,
   operand-at-reads.Asked,
@@ -651,34 +343,22 @@ parse-juxtaposition-enum-known-why : (t : ℕ) → parse-juxtaposition-lts.Need-
   add-node-reads.Asked,
   add-node-reads.Learnt,
 )
+
+parse-juxtaposition-enum-known-why : (t : ℕ) → parse-juxtaposition-lts.Need-enum-known-why (parse-juxtaposition-claims t)
     (parse-juxtaposition-at t)
     parse-juxtaposition.Post
     parse-juxtaposition-Inv-loop
     parse-juxtaposition-μ-loop
 parse-juxtaposition-enum-known-why t c = search needs
 
-parse-juxtaposition-enum-known-first : (t : ℕ) → parse-juxtaposition-lts.Need-enum-known-first (
-  parse-atom-below t,
-  parse-atom.Post,
-  operand-at-reads.Asked,
-  operand-at-reads.Learnt,
-  add-node-reads.Asked,
-  add-node-reads.Learnt,
-)
+parse-juxtaposition-enum-known-first : (t : ℕ) → parse-juxtaposition-lts.Need-enum-known-first (parse-juxtaposition-claims t)
     (parse-juxtaposition-at t)
     parse-juxtaposition.Post
     parse-juxtaposition-Inv-loop
     parse-juxtaposition-μ-loop
 parse-juxtaposition-enum-known-first t c = search needs
 
-parse-juxtaposition-loop-holds : (t : ℕ) → parse-juxtaposition-lts.Need-loop-holds (
-  parse-atom-below t,
-  parse-atom.Post,
-  operand-at-reads.Asked,
-  operand-at-reads.Learnt,
-  add-node-reads.Asked,
-  add-node-reads.Learnt,
-)
+parse-juxtaposition-loop-holds : (t : ℕ) → parse-juxtaposition-lts.Need-loop-holds (parse-juxtaposition-claims t)
     (parse-juxtaposition-at t)
     parse-juxtaposition.Post
     parse-juxtaposition-Inv-loop
@@ -720,42 +400,21 @@ parse-juxtaposition-parse-atom-requires-2 t c κs = let s = c .before .before .b
     let kept : length work ≡ length old = omega (arith, inv .2, c .before .before .before .before .before .before .before .before .before .parse-atom .kept) in
     (omega (arith, c .before .before .before .before .before .before .before .before .before .before .before .before .before .pre .0, inv .0 .within .later), ready-on s p (length old) (length work) q kids ready kept (inv .0 .within))
 
-parse-juxtaposition-enum-known-why-2 : (t : ℕ) → parse-juxtaposition-lts.Need-enum-known-why-2 (
-  parse-atom-below t,
-  parse-atom.Post,
-  operand-at-reads.Asked,
-  operand-at-reads.Learnt,
-  add-node-reads.Asked,
-  add-node-reads.Learnt,
-)
+parse-juxtaposition-enum-known-why-2 : (t : ℕ) → parse-juxtaposition-lts.Need-enum-known-why-2 (parse-juxtaposition-claims t)
     (parse-juxtaposition-at t)
     parse-juxtaposition.Post
     parse-juxtaposition-Inv-loop
     parse-juxtaposition-μ-loop
 parse-juxtaposition-enum-known-why-2 t c = search needs
 
-parse-juxtaposition-same-length : (t : ℕ) → parse-juxtaposition-lts.Need-same-length (
-  parse-atom-below t,
-  parse-atom.Post,
-  operand-at-reads.Asked,
-  operand-at-reads.Learnt,
-  add-node-reads.Asked,
-  add-node-reads.Learnt,
-)
+parse-juxtaposition-same-length : (t : ℕ) → parse-juxtaposition-lts.Need-same-length (parse-juxtaposition-claims t)
     (parse-juxtaposition-at t)
     parse-juxtaposition.Post
     parse-juxtaposition-Inv-loop
     parse-juxtaposition-μ-loop
 parse-juxtaposition-same-length t c = search needs
 
-parse-juxtaposition-returns : (t : ℕ) → parse-juxtaposition-lts.Need-returns (
-  parse-atom-below t,
-  parse-atom.Post,
-  operand-at-reads.Asked,
-  operand-at-reads.Learnt,
-  add-node-reads.Asked,
-  add-node-reads.Learnt,
-)
+parse-juxtaposition-returns : (t : ℕ) → parse-juxtaposition-lts.Need-returns (parse-juxtaposition-claims t)
     (parse-juxtaposition-at t)
     parse-juxtaposition.Post
     parse-juxtaposition-Inv-loop
@@ -764,28 +423,14 @@ parse-juxtaposition-returns t c = let s = c .before .before .before .before .bef
     let work = c .before .before .before .before .before .before .before .before .before .loop .work in let q = c .before .before .before .before .before .before .before .before .before .loop .q in let kids = c .before .before .before .before .before .before .before .before .before .loop .kids in let inv = c .before .before .before .before .before .before .before .before .before .loop .inv in
     run-breaks s p work q kids (inv .0) (sym (c .before .before .before .before .before .before .before .if1 .taken) ∙ c .before .before .before .before .before .before .before .before .operand-at .ensures) old (c .before .before .before .before .before .parse-atom2 .last .1 .0) _ (c .before .why2 .given .0 .0) (c .before .why2 .given .1) (c .before .before .before .before .before .parse-atom2 .ensures)
 
-parse-juxtaposition-enum-known-next : (t : ℕ) → parse-juxtaposition-lts.Need-enum-known-next (
-  parse-atom-below t,
-  parse-atom.Post,
-  operand-at-reads.Asked,
-  operand-at-reads.Learnt,
-  add-node-reads.Asked,
-  add-node-reads.Learnt,
-)
+parse-juxtaposition-enum-known-next : (t : ℕ) → parse-juxtaposition-lts.Need-enum-known-next (parse-juxtaposition-claims t)
     (parse-juxtaposition-at t)
     parse-juxtaposition.Post
     parse-juxtaposition-Inv-loop
     parse-juxtaposition-μ-loop
 parse-juxtaposition-enum-known-next t c = search needs
 
-parse-juxtaposition-add-kids : (t : ℕ) → parse-juxtaposition-lts.Need-add-kids (
-  parse-atom-below t,
-  parse-atom.Post,
-  operand-at-reads.Asked,
-  operand-at-reads.Learnt,
-  add-node-reads.Asked,
-  add-node-reads.Learnt,
-)
+parse-juxtaposition-add-kids : (t : ℕ) → parse-juxtaposition-lts.Need-add-kids (parse-juxtaposition-claims t)
     (parse-juxtaposition-at t)
     parse-juxtaposition.Post
     parse-juxtaposition-Inv-loop
@@ -794,14 +439,7 @@ parse-juxtaposition-add-kids t c = let s = c .before .before .before .before .be
     let work = c .before .before .before .before .before .before .before .before .before .loop .work in let q = c .before .before .before .before .before .before .before .before .before .loop .q in let kids = c .before .before .before .before .before .before .before .before .before .loop .kids in let inv = c .before .before .before .before .before .before .before .before .before .loop .inv in
     let w = inv .0 .within in omega (arith, w .few, w .left, ready .few)
 
-parse-juxtaposition-loop-less : (t : ℕ) → parse-juxtaposition-lts.Need-loop-less (
-  parse-atom-below t,
-  parse-atom.Post,
-  operand-at-reads.Asked,
-  operand-at-reads.Learnt,
-  add-node-reads.Asked,
-  add-node-reads.Learnt,
-)
+parse-juxtaposition-loop-less : (t : ℕ) → parse-juxtaposition-lts.Need-loop-less (parse-juxtaposition-claims t)
     (parse-juxtaposition-at t)
     parse-juxtaposition.Post
     parse-juxtaposition-Inv-loop
@@ -810,14 +448,7 @@ parse-juxtaposition-loop-less t c = let s = c .before .before .before .before .b
     let work = c .before .before .before .before .before .before .before .before .before .loop .work in let q = c .before .before .before .before .before .before .before .before .before .loop .q in let kids = c .before .before .before .before .before .before .before .before .before .loop .kids in let inv = c .before .before .before .before .before .before .before .before .before .loop .inv in
     let h = rw (c .before .next .given .1) at (c .before .before .before .before .before .parse-atom2 .ensures) in let w = h .2 .within in omega (arith, w .later, w .inside)
 
-parse-juxtaposition-loop-again : (t : ℕ) → parse-juxtaposition-lts.Need-loop-again (
-  parse-atom-below t,
-  parse-atom.Post,
-  operand-at-reads.Asked,
-  operand-at-reads.Learnt,
-  add-node-reads.Asked,
-  add-node-reads.Learnt,
-)
+parse-juxtaposition-loop-again : (t : ℕ) → parse-juxtaposition-lts.Need-loop-again (parse-juxtaposition-claims t)
     (parse-juxtaposition-at t)
     parse-juxtaposition.Post
     parse-juxtaposition-Inv-loop
@@ -827,28 +458,14 @@ parse-juxtaposition-loop-again t c = let s = c .before .before .before .before .
     let h = run-goes s p work q kids (inv .0) (c .before .before .before .before .before .parse-atom2 .last .1 .0) _ (c .before .next .given .0 .0) (c .before .next .given .1) (c .before .before .before .before .before .parse-atom2 .ensures) in
     (h .0, h .1 ∙ inv .1, omega (arith, inv .2, c .before .before .before .before .before .parse-atom2 .kept))
 
-parse-juxtaposition-same-length-2 : (t : ℕ) → parse-juxtaposition-lts.Need-same-length-2 (
-  parse-atom-below t,
-  parse-atom.Post,
-  operand-at-reads.Asked,
-  operand-at-reads.Learnt,
-  add-node-reads.Asked,
-  add-node-reads.Learnt,
-)
+parse-juxtaposition-same-length-2 : (t : ℕ) → parse-juxtaposition-lts.Need-same-length-2 (parse-juxtaposition-claims t)
     (parse-juxtaposition-at t)
     parse-juxtaposition.Post
     parse-juxtaposition-Inv-loop
     parse-juxtaposition-μ-loop
 parse-juxtaposition-same-length-2 t c = search needs
 
-parse-juxtaposition-returns-2 : (t : ℕ) → parse-juxtaposition-lts.Need-returns-2 (
-  parse-atom-below t,
-  parse-atom.Post,
-  operand-at-reads.Asked,
-  operand-at-reads.Learnt,
-  add-node-reads.Asked,
-  add-node-reads.Learnt,
-)
+parse-juxtaposition-returns-2 : (t : ℕ) → parse-juxtaposition-lts.Need-returns-2 (parse-juxtaposition-claims t)
     (parse-juxtaposition-at t)
     parse-juxtaposition.Post
     parse-juxtaposition-Inv-loop
@@ -858,14 +475,7 @@ parse-juxtaposition-returns-2 t c = let s = c .before .before .before .before .b
     let work = c .before .before .before .loop .work in let q = c .before .before .before .loop .q in let kids = c .before .before .before .loop .kids in let inv = c .before .before .before .loop .inv in
     jux-one s p work q kids (inv .0) old (sym (c .before .if1 .left) ∙ c .before .before .operand-at .ensures) (inv .1 ∙ st .1) (c .if2 .taken)
 
-parse-juxtaposition-add-node-requires : (t : ℕ) → parse-juxtaposition-lts.Need-add-node-requires (
-  parse-atom-below t,
-  parse-atom.Post,
-  operand-at-reads.Asked,
-  operand-at-reads.Learnt,
-  add-node-reads.Asked,
-  add-node-reads.Learnt,
-)
+parse-juxtaposition-add-node-requires : (t : ℕ) → parse-juxtaposition-lts.Need-add-node-requires (parse-juxtaposition-claims t)
     (parse-juxtaposition-at t)
     parse-juxtaposition.Post
     parse-juxtaposition-Inv-loop
@@ -877,28 +487,14 @@ parse-juxtaposition-add-node-requires t c κs = let s = c .before .before .befor
     let room = row-left s p (length old) (q .at) (q .rows) (q .cites) kids ready (inv .0 .within) two in
     (inv .0 .within .above, omega (arith, room .0, kept), room .1, room .2)
 
-parse-juxtaposition-same-length-3 : (t : ℕ) → parse-juxtaposition-lts.Need-same-length-3 (
-  parse-atom-below t,
-  parse-atom.Post,
-  operand-at-reads.Asked,
-  operand-at-reads.Learnt,
-  add-node-reads.Asked,
-  add-node-reads.Learnt,
-)
+parse-juxtaposition-same-length-3 : (t : ℕ) → parse-juxtaposition-lts.Need-same-length-3 (parse-juxtaposition-claims t)
     (parse-juxtaposition-at t)
     parse-juxtaposition.Post
     parse-juxtaposition-Inv-loop
     parse-juxtaposition-μ-loop
 parse-juxtaposition-same-length-3 t c = search needs
 
-parse-juxtaposition-returns-3 : (t : ℕ) → parse-juxtaposition-lts.Need-returns-3 (
-  parse-atom-below t,
-  parse-atom.Post,
-  operand-at-reads.Asked,
-  operand-at-reads.Learnt,
-  add-node-reads.Asked,
-  add-node-reads.Learnt,
-)
+parse-juxtaposition-returns-3 : (t : ℕ) → parse-juxtaposition-lts.Need-returns-3 (parse-juxtaposition-claims t)
     (parse-juxtaposition-at t)
     parse-juxtaposition.Post
     parse-juxtaposition-Inv-loop
@@ -906,28 +502,14 @@ parse-juxtaposition-returns-3 : (t : ℕ) → parse-juxtaposition-lts.Need-retur
 parse-juxtaposition-returns-3 t c = let s = c .before .before .before .before .before .before .before .before .before .args .toks .now in let p = c .before .before .before .before .before .before .before .before .before .args .p in let old = c .before .before .before .before .before .before .before .before .before .args .work .now in let ready = c .before .before .before .before .before .before .before .before .before .pre .1 in
     jux-passes s p old (c .before .before .before .before .before .parse-atom .last .1 .0) _ (c .before .why .given .0 .0) (c .before .why .given .1) (c .before .before .before .before .before .parse-atom .ensures)
 
-parse-juxtaposition-same-length-4 : (t : ℕ) → parse-juxtaposition-lts.Need-same-length-4 (
-  parse-atom-below t,
-  parse-atom.Post,
-  operand-at-reads.Asked,
-  operand-at-reads.Learnt,
-  add-node-reads.Asked,
-  add-node-reads.Learnt,
-)
+parse-juxtaposition-same-length-4 : (t : ℕ) → parse-juxtaposition-lts.Need-same-length-4 (parse-juxtaposition-claims t)
     (parse-juxtaposition-at t)
     parse-juxtaposition.Post
     parse-juxtaposition-Inv-loop
     parse-juxtaposition-μ-loop
 parse-juxtaposition-same-length-4 t c = search needs
 
-parse-juxtaposition-returns-4 : (t : ℕ) → parse-juxtaposition-lts.Need-returns-4 (
-  parse-atom-below t,
-  parse-atom.Post,
-  operand-at-reads.Asked,
-  operand-at-reads.Learnt,
-  add-node-reads.Asked,
-  add-node-reads.Learnt,
-)
+parse-juxtaposition-returns-4 : (t : ℕ) → parse-juxtaposition-lts.Need-returns-4 (parse-juxtaposition-claims t)
     (parse-juxtaposition-at t)
     parse-juxtaposition.Post
     parse-juxtaposition-Inv-loop

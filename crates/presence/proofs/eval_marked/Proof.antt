@@ -4,11 +4,11 @@ use borrow.Author.Needs.{needs}
 use Rattle.presence.proofs.eval_marked.Statement.{statement}
 use Rattle.presence.proofs.eval_marked.Tie as tie
 
-mark-rows-requires : tie.Need-mark-rows-requires
-mark-rows-requires c κs = search needs
+mark-choices-requires : tie.Need-mark-choices-requires
+mark-choices-requires c κs = search needs
 
 eval-row-requires : tie.Need-eval-row-requires
-eval-row-requires c κs = let h = c .before .before .before .before .before .before .before .before .pre .0 in (h, few-rows _ h .1, fit-long _ _ h (c .before .before .before .before .before .before .before .before .pre .1), c .before .before .before .mark-rows .ensures)
+eval-row-requires c κs = let h = c .before .before .before .before .before .before .before .before .pre .0 in (h, few-rows _ h .1, fit-long _ _ h (c .before .before .before .before .before .before .before .before .pre .1), c .before .before .before .mark-choices .ensures)
 
 same-length : tie.Need-same-length
 same-length c = search needs
@@ -17,4 +17,4 @@ returns : tie.Need-returns
 returns c = c .eval-row .ensures ∙ whole-presence _ (c .before .before .before .before .before .before .before .before .before .args .answers .now) (c .before .before .before .before .before .before .before .before .before .pre .0)
 
 pub eval-marked-spec : {M : Type 1} → statement M
-eval-marked-spec = tie.close (tie.spec mark-rows-requires eval-row-requires same-length returns)
+eval-marked-spec = tie.close (tie.spec mark-choices-requires eval-row-requires same-length returns)

@@ -2,7 +2,7 @@ use borrow.Author.Needs.{needs}
 use native.Mathlib.Omega.{arith}
 use borrow.Author.Tests.{lt-ltb, le-ltb}
 use Rattle.tree.proofs.Walks.{walk-next}
-use Rattle.presence.proofs.Walks.{Mixing, mixing-begins, mixing-turns, mixing-gated, mixing-open}
+use Rattle.presence.proofs.Walks.{Mixing, mixing-begins, mixing-turns, mixing-gated, mixing-open, ready-marked}
 use Rattle.presence.proofs.mixed.Statement.{statement}
 use Rattle.presence.proofs.mixed.Tie as tie
 
@@ -49,7 +49,7 @@ loop-less : tie.Need-loop-less Inv-loop μ-loop
 loop-less c = omega arith
 
 loop-again : tie.Need-loop-again Inv-loop μ-loop
-loop-again c = mixing-turns _ (c .before .before .before .before .before .before .before .before .before .before .before .pre .0) _ _ _ _ _ _ (c .before .before .before .before .before .before .before .before .before .before .before .pre .2) (c .before .before .before .before .before .before .loop .inv) (omega arith) _ _ _ (c .before .before .before .either .ensures) (c .before .either2 .ensures) (c .size-at .ensures .0)
+loop-again c = mixing-turns _ (c .before .before .before .before .before .before .before .before .before .before .before .pre .0) _ _ _ _ _ _ (ready-marked _ _ (c .before .before .before .before .before .before .before .before .before .before .before .args .row) _ (c .before .before .before .before .before .before .before .before .before .before .before .pre .2) (c .before .before .before .before .before .before .before .before .before .before .before .pre .1) (c .before .before .before .before .before .before .before .before .before .before .before .pre .3) (lt-ltb 2 (c .before .before .before .before .before .before .before .before .before .before .before .args .kind) (omega arith))) (c .before .before .before .before .before .before .loop .inv) (omega arith) _ _ _ (c .before .before .before .either .ensures) (c .before .either2 .ensures) (c .size-at .ensures .0)
 
 returns-2 : tie.Need-returns-2 Inv-loop μ-loop
 returns-2 c = rw (lt-ltb 2 (c .before .before .before .before .before .before .before .args .kind) (omega arith)) (mixing-gated _ _ _ _ _ _ (c .before .before .loop .inv) (omega arith) (c .if2 .taken))

@@ -36,7 +36,9 @@ judge-row-Inv-loop tree value row list₀ at k m tally₀ left₀ child₀ w₀ 
 abbrev judge-row-μ-loop : judge-row-lts.MeasureT-loop
 judge-row-μ-loop tree value row list₀ at k m tally₀ left₀ child₀ w₀ list tally left child w = left
 
-judge-row-kind-at-requires : (t : ℕ) → judge-row-lts.Need-kind-at-requires (
+-- what is asked of the functions that are called, and what is learnt from them
+abbrev judge-row-claims : ℕ → judge-row-lts.Claims
+judge-row-claims t = (
   kind-at-reads.Asked,
   kind-at-reads.Learnt,
   number-at-reads.Asked,
@@ -53,347 +55,60 @@ judge-row-kind-at-requires : (t : ℕ) → judge-row-lts.Need-kind-at-requires (
   add-reads.Learnt,
   rule-reads.Asked,
   rule-reads.Learnt,
-) (judge-row-at t) judge-row.Post judge-row-Inv-loop judge-row-μ-loop
+)
+
+judge-row-kind-at-requires : (t : ℕ) → judge-row-lts.Need-kind-at-requires (judge-row-claims t) (judge-row-at t) judge-row.Post judge-row-Inv-loop judge-row-μ-loop
 judge-row-kind-at-requires t c κs = (c .before .before .before .pre .1 .0, c .before .before .before .pre .1 .1)
 
-judge-row-number-at-requires : (t : ℕ) → judge-row-lts.Need-number-at-requires (
-  kind-at-reads.Asked,
-  kind-at-reads.Learnt,
-  number-at-reads.Asked,
-  number-at-reads.Learnt,
-  judge-cited-reads.Asked,
-  judge-cited-reads.Learnt,
-  new-reads.Asked,
-  new-reads.Learnt,
-  size-at-reads.Asked,
-  size-at-reads.Learnt,
-  judge-row-below t,
-  judge-row.Post,
-  add-reads.Asked,
-  add-reads.Learnt,
-  rule-reads.Asked,
-  rule-reads.Learnt,
-) (judge-row-at t) judge-row.Post judge-row-Inv-loop judge-row-μ-loop
+judge-row-number-at-requires : (t : ℕ) → judge-row-lts.Need-number-at-requires (judge-row-claims t) (judge-row-at t) judge-row.Post judge-row-Inv-loop judge-row-μ-loop
 judge-row-number-at-requires t c κs = (c .before .before .before .before .pre .1 .0, c .before .before .before .before .pre .1 .1)
 
-judge-row-judge-cited-requires : (t : ℕ) → judge-row-lts.Need-judge-cited-requires (
-  kind-at-reads.Asked,
-  kind-at-reads.Learnt,
-  number-at-reads.Asked,
-  number-at-reads.Learnt,
-  judge-cited-reads.Asked,
-  judge-cited-reads.Learnt,
-  new-reads.Asked,
-  new-reads.Learnt,
-  size-at-reads.Asked,
-  size-at-reads.Learnt,
-  judge-row-below t,
-  judge-row.Post,
-  add-reads.Asked,
-  add-reads.Learnt,
-  rule-reads.Asked,
-  rule-reads.Learnt,
-) (judge-row-at t) judge-row.Post judge-row-Inv-loop judge-row-μ-loop
+judge-row-judge-cited-requires : (t : ℕ) → judge-row-lts.Need-judge-cited-requires (judge-row-claims t) (judge-row-at t) judge-row.Post judge-row-Inv-loop judge-row-μ-loop
 judge-row-judge-cited-requires t c κs = let b = c .before .before .before .before .before .before .before .pre .1 in let l = laws.leaf-asked (c .before .before .before .before .before .before .before .args .value .now) (c .before .before .before .before .before .before .before .args .tree .now) (b .0) _ _ _ _ (b .1) (sym (c .before .before .before .kind-at .ensures .0) ∙ c .before .if1 .taken) (c .before .before .number-at .ensures .0) (b .2) in (b .0, l .0, c .before .before .number-at .ensures .1, l .1)
 
-judge-row-same-length : (t : ℕ) → judge-row-lts.Need-same-length (
-  kind-at-reads.Asked,
-  kind-at-reads.Learnt,
-  number-at-reads.Asked,
-  number-at-reads.Learnt,
-  judge-cited-reads.Asked,
-  judge-cited-reads.Learnt,
-  new-reads.Asked,
-  new-reads.Learnt,
-  size-at-reads.Asked,
-  size-at-reads.Learnt,
-  judge-row-below t,
-  judge-row.Post,
-  add-reads.Asked,
-  add-reads.Learnt,
-  rule-reads.Asked,
-  rule-reads.Learnt,
-) (judge-row-at t) judge-row.Post judge-row-Inv-loop judge-row-μ-loop
+judge-row-same-length : (t : ℕ) → judge-row-lts.Need-same-length (judge-row-claims t) (judge-row-at t) judge-row.Post judge-row-Inv-loop judge-row-μ-loop
 judge-row-same-length t c = search needs
 
-judge-row-returns : (t : ℕ) → judge-row-lts.Need-returns (
-  kind-at-reads.Asked,
-  kind-at-reads.Learnt,
-  number-at-reads.Asked,
-  number-at-reads.Learnt,
-  judge-cited-reads.Asked,
-  judge-cited-reads.Learnt,
-  new-reads.Asked,
-  new-reads.Learnt,
-  size-at-reads.Asked,
-  size-at-reads.Learnt,
-  judge-row-below t,
-  judge-row.Post,
-  add-reads.Asked,
-  add-reads.Learnt,
-  rule-reads.Asked,
-  rule-reads.Learnt,
-) (judge-row-at t) judge-row.Post judge-row-Inv-loop judge-row-μ-loop
+judge-row-returns : (t : ℕ) → judge-row-lts.Need-returns (judge-row-claims t) (judge-row-at t) judge-row.Post judge-row-Inv-loop judge-row-μ-loop
 judge-row-returns t c = let b = c .before .before .before .before .before .before .before .before .before .before .pre .1 in laws.leaf-judged (c .before .before .before .before .before .before .before .before .before .before .args .value .now) (c .before .before .before .before .before .before .before .before .before .before .args .tree .now) (b .0) (b .1) (sym (c .before .before .before .before .before .before .kind-at .ensures .0) ∙ c .before .before .before .before .if1 .taken) (c .before .before .before .before .before .number-at .ensures .0) (c .before .before .judge-cited .ensures)
 
-judge-row-new-requires : (t : ℕ) → judge-row-lts.Need-new-requires (
-  kind-at-reads.Asked,
-  kind-at-reads.Learnt,
-  number-at-reads.Asked,
-  number-at-reads.Learnt,
-  judge-cited-reads.Asked,
-  judge-cited-reads.Learnt,
-  new-reads.Asked,
-  new-reads.Learnt,
-  size-at-reads.Asked,
-  size-at-reads.Learnt,
-  judge-row-below t,
-  judge-row.Post,
-  add-reads.Asked,
-  add-reads.Learnt,
-  rule-reads.Asked,
-  rule-reads.Learnt,
-) (judge-row-at t) judge-row.Post judge-row-Inv-loop judge-row-μ-loop
+judge-row-new-requires : (t : ℕ) → judge-row-lts.Need-new-requires (judge-row-claims t) (judge-row-at t) judge-row.Post judge-row-Inv-loop judge-row-μ-loop
 judge-row-new-requires t c κs = search needs
 
-judge-row-add-child : (t : ℕ) → judge-row-lts.Need-add-child (
-  kind-at-reads.Asked,
-  kind-at-reads.Learnt,
-  number-at-reads.Asked,
-  number-at-reads.Learnt,
-  judge-cited-reads.Asked,
-  judge-cited-reads.Learnt,
-  new-reads.Asked,
-  new-reads.Learnt,
-  size-at-reads.Asked,
-  size-at-reads.Learnt,
-  judge-row-below t,
-  judge-row.Post,
-  add-reads.Asked,
-  add-reads.Learnt,
-  rule-reads.Asked,
-  rule-reads.Learnt,
-) (judge-row-at t) judge-row.Post judge-row-Inv-loop judge-row-μ-loop
+judge-row-add-child : (t : ℕ) → judge-row-lts.Need-add-child (judge-row-claims t) (judge-row-at t) judge-row.Post judge-row-Inv-loop judge-row-μ-loop
 judge-row-add-child t c = let b = c .before .before .before .before .before .before .before .pre .1 in omega (arith, b .1, laws.few-rows (c .before .before .before .before .before .before .before .args .value .now) (c .before .before .before .before .before .before .before .args .tree .now) (b .0))
 
-judge-row-loop-holds : (t : ℕ) → judge-row-lts.Need-loop-holds (
-  kind-at-reads.Asked,
-  kind-at-reads.Learnt,
-  number-at-reads.Asked,
-  number-at-reads.Learnt,
-  judge-cited-reads.Asked,
-  judge-cited-reads.Learnt,
-  new-reads.Asked,
-  new-reads.Learnt,
-  size-at-reads.Asked,
-  size-at-reads.Learnt,
-  judge-row-below t,
-  judge-row.Post,
-  add-reads.Asked,
-  add-reads.Learnt,
-  rule-reads.Asked,
-  rule-reads.Learnt,
-) (judge-row-at t) judge-row.Post judge-row-Inv-loop judge-row-μ-loop
+judge-row-loop-holds : (t : ℕ) → judge-row-lts.Need-loop-holds (judge-row-claims t) (judge-row-at t) judge-row.Post judge-row-Inv-loop judge-row-μ-loop
 judge-row-loop-holds t c = let b = c .before .before .before .before .before .before .before .pre .1 in laws.state-starts (c .before .before .before .before .before .before .before .args .value .now) (c .before .before .before .before .before .before .before .args .tree .now) (b .0) _ _ _ _ _ (b .1) (λ q. c .before .if1 .left (c .before .before .before .kind-at .ensures .0 ∙ q)) (c .before .before .number-at .ensures .0) (c .new .ensures)
 
-judge-row-size-at-requires : (t : ℕ) → judge-row-lts.Need-size-at-requires (
-  kind-at-reads.Asked,
-  kind-at-reads.Learnt,
-  number-at-reads.Asked,
-  number-at-reads.Learnt,
-  judge-cited-reads.Asked,
-  judge-cited-reads.Learnt,
-  new-reads.Asked,
-  new-reads.Learnt,
-  size-at-reads.Asked,
-  size-at-reads.Learnt,
-  judge-row-below t,
-  judge-row.Post,
-  add-reads.Asked,
-  add-reads.Learnt,
-  rule-reads.Asked,
-  rule-reads.Learnt,
-) (judge-row-at t) judge-row.Post judge-row-Inv-loop judge-row-μ-loop
+judge-row-size-at-requires : (t : ℕ) → judge-row-lts.Need-size-at-requires (judge-row-claims t) (judge-row-at t) judge-row.Post judge-row-Inv-loop judge-row-μ-loop
 judge-row-size-at-requires t c κs = let b = c .before .before .before .before .before .before .before .before .before .pre .1 in (b .0, laws.state-next (c .before .before .before .before .before .before .before .before .before .args .value .now) (c .before .before .before .before .before .before .before .before .before .args .tree .now) (b .0) (c .before .loop .inv) (omega arith) .inside)
 
-judge-row-judge-row-requires : (t : ℕ) → judge-row-lts.Need-judge-row-requires (
-  kind-at-reads.Asked,
-  kind-at-reads.Learnt,
-  number-at-reads.Asked,
-  number-at-reads.Learnt,
-  judge-cited-reads.Asked,
-  judge-cited-reads.Learnt,
-  new-reads.Asked,
-  new-reads.Learnt,
-  size-at-reads.Asked,
-  size-at-reads.Learnt,
-  judge-row-below t,
-  judge-row.Post,
-  add-reads.Asked,
-  add-reads.Learnt,
-  rule-reads.Asked,
-  rule-reads.Learnt,
-) (judge-row-at t) judge-row.Post judge-row-Inv-loop judge-row-μ-loop
+judge-row-judge-row-requires : (t : ℕ) → judge-row-lts.Need-judge-row-requires (judge-row-claims t) (judge-row-at t) judge-row.Post judge-row-Inv-loop judge-row-μ-loop
 judge-row-judge-row-requires t c κs = let b = c .before .before .before .before .before .before .before .before .before .before .before .pre .1 in let n = laws.state-next (c .before .before .before .before .before .before .before .before .before .before .before .args .value .now) (c .before .before .before .before .before .before .before .before .before .before .before .args .tree .now) (b .0) (c .before .before .before .loop .inv) (omega arith) in (omega (arith, c .before .before .before .before .before .before .before .before .before .before .before .pre .0, n .shrinks), (b .0, n .inside, laws.state-room (c .before .before .before .before .before .before .before .before .before .before .before .args .value .now) (c .before .before .before .before .before .before .before .before .before .before .before .args .tree .now) (b .0) (c .before .before .before .loop .inv) (omega arith) (b .2) (λ q. c .before .before .before .before .before .if1 .left (c .before .before .before .before .before .before .before .kind-at .ensures .0 ∙ q))))
 
-judge-row-add-requires : (t : ℕ) → judge-row-lts.Need-add-requires (
-  kind-at-reads.Asked,
-  kind-at-reads.Learnt,
-  number-at-reads.Asked,
-  number-at-reads.Learnt,
-  judge-cited-reads.Asked,
-  judge-cited-reads.Learnt,
-  new-reads.Asked,
-  new-reads.Learnt,
-  size-at-reads.Asked,
-  size-at-reads.Learnt,
-  judge-row-below t,
-  judge-row.Post,
-  add-reads.Asked,
-  add-reads.Learnt,
-  rule-reads.Asked,
-  rule-reads.Learnt,
-) (judge-row-at t) judge-row.Post judge-row-Inv-loop judge-row-μ-loop
+judge-row-add-requires : (t : ℕ) → judge-row-lts.Need-add-requires (judge-row-claims t) (judge-row-at t) judge-row.Post judge-row-Inv-loop judge-row-μ-loop
 judge-row-add-requires t c κs = search needs
 
-judge-row-add-child-2 : (t : ℕ) → judge-row-lts.Need-add-child-2 (
-  kind-at-reads.Asked,
-  kind-at-reads.Learnt,
-  number-at-reads.Asked,
-  number-at-reads.Learnt,
-  judge-cited-reads.Asked,
-  judge-cited-reads.Learnt,
-  new-reads.Asked,
-  new-reads.Learnt,
-  size-at-reads.Asked,
-  size-at-reads.Learnt,
-  judge-row-below t,
-  judge-row.Post,
-  add-reads.Asked,
-  add-reads.Learnt,
-  rule-reads.Asked,
-  rule-reads.Learnt,
-) (judge-row-at t) judge-row.Post judge-row-Inv-loop judge-row-μ-loop
+judge-row-add-child-2 : (t : ℕ) → judge-row-lts.Need-add-child-2 (judge-row-claims t) (judge-row-at t) judge-row.Post judge-row-Inv-loop judge-row-μ-loop
 judge-row-add-child-2 t c = let b = c .before .before .before .before .before .before .before .before .before .before .before .before .before .before .before .pre .1 in let n = laws.state-next (c .before .before .before .before .before .before .before .before .before .before .before .before .before .before .before .args .value .now) (c .before .before .before .before .before .before .before .before .before .before .before .before .before .before .before .args .tree .now) (b .0) (c .before .before .before .before .before .before .before .loop .inv) (omega arith) in omega (arith, n .walk .within, c .before .before .before .before .before .size-at .ensures .0, laws.few-rows (c .before .before .before .before .before .before .before .before .before .before .before .before .before .before .before .args .value .now) (c .before .before .before .before .before .before .before .before .before .before .before .before .before .before .before .args .tree .now) (b .0))
 
-judge-row-sub-left : (t : ℕ) → judge-row-lts.Need-sub-left (
-  kind-at-reads.Asked,
-  kind-at-reads.Learnt,
-  number-at-reads.Asked,
-  number-at-reads.Learnt,
-  judge-cited-reads.Asked,
-  judge-cited-reads.Learnt,
-  new-reads.Asked,
-  new-reads.Learnt,
-  size-at-reads.Asked,
-  size-at-reads.Learnt,
-  judge-row-below t,
-  judge-row.Post,
-  add-reads.Asked,
-  add-reads.Learnt,
-  rule-reads.Asked,
-  rule-reads.Learnt,
-) (judge-row-at t) judge-row.Post judge-row-Inv-loop judge-row-μ-loop
+judge-row-sub-left : (t : ℕ) → judge-row-lts.Need-sub-left (judge-row-claims t) (judge-row-at t) judge-row.Post judge-row-Inv-loop judge-row-μ-loop
 judge-row-sub-left t c = search needs
 
-judge-row-loop-less : (t : ℕ) → judge-row-lts.Need-loop-less (
-  kind-at-reads.Asked,
-  kind-at-reads.Learnt,
-  number-at-reads.Asked,
-  number-at-reads.Learnt,
-  judge-cited-reads.Asked,
-  judge-cited-reads.Learnt,
-  new-reads.Asked,
-  new-reads.Learnt,
-  size-at-reads.Asked,
-  size-at-reads.Learnt,
-  judge-row-below t,
-  judge-row.Post,
-  add-reads.Asked,
-  add-reads.Learnt,
-  rule-reads.Asked,
-  rule-reads.Learnt,
-) (judge-row-at t) judge-row.Post judge-row-Inv-loop judge-row-μ-loop
+judge-row-loop-less : (t : ℕ) → judge-row-lts.Need-loop-less (judge-row-claims t) (judge-row-at t) judge-row.Post judge-row-Inv-loop judge-row-μ-loop
 judge-row-loop-less t c = search needs
 
-judge-row-loop-again : (t : ℕ) → judge-row-lts.Need-loop-again (
-  kind-at-reads.Asked,
-  kind-at-reads.Learnt,
-  number-at-reads.Asked,
-  number-at-reads.Learnt,
-  judge-cited-reads.Asked,
-  judge-cited-reads.Learnt,
-  new-reads.Asked,
-  new-reads.Learnt,
-  size-at-reads.Asked,
-  size-at-reads.Learnt,
-  judge-row-below t,
-  judge-row.Post,
-  add-reads.Asked,
-  add-reads.Learnt,
-  rule-reads.Asked,
-  rule-reads.Learnt,
-) (judge-row-at t) judge-row.Post judge-row-Inv-loop judge-row-μ-loop
+judge-row-loop-again : (t : ℕ) → judge-row-lts.Need-loop-again (judge-row-claims t) (judge-row-at t) judge-row.Post judge-row-Inv-loop judge-row-μ-loop
 judge-row-loop-again t c = laws.state-again (c .before .before .before .before .before .before .before .before .before .before .before .before .before .before .before .args .value .now) (c .before .before .before .before .before .before .before .before .before .before .before .before .before .before .before .args .tree .now) (c .before .before .before .before .before .before .before .before .before .before .before .before .before .before .before .pre .1 .0) (c .before .before .before .before .before .before .before .loop .inv) (omega arith) _ _ (c .before .before .before .before .before .size-at .ensures .0) (c .before .before .before .judge-row .ensures) (c .before .before .before .judge-row .kept .1 .1 .1 .0) (c .add .ensures)
 
-judge-row-rule-requires : (t : ℕ) → judge-row-lts.Need-rule-requires (
-  kind-at-reads.Asked,
-  kind-at-reads.Learnt,
-  number-at-reads.Asked,
-  number-at-reads.Learnt,
-  judge-cited-reads.Asked,
-  judge-cited-reads.Learnt,
-  new-reads.Asked,
-  new-reads.Learnt,
-  size-at-reads.Asked,
-  size-at-reads.Learnt,
-  judge-row-below t,
-  judge-row.Post,
-  add-reads.Asked,
-  add-reads.Learnt,
-  rule-reads.Asked,
-  rule-reads.Learnt,
-) (judge-row-at t) judge-row.Post judge-row-Inv-loop judge-row-μ-loop
+judge-row-rule-requires : (t : ℕ) → judge-row-lts.Need-rule-requires (judge-row-claims t) (judge-row-at t) judge-row.Post judge-row-Inv-loop judge-row-μ-loop
 judge-row-rule-requires t c κs = search needs
 
-judge-row-same-length-2 : (t : ℕ) → judge-row-lts.Need-same-length-2 (
-  kind-at-reads.Asked,
-  kind-at-reads.Learnt,
-  number-at-reads.Asked,
-  number-at-reads.Learnt,
-  judge-cited-reads.Asked,
-  judge-cited-reads.Learnt,
-  new-reads.Asked,
-  new-reads.Learnt,
-  size-at-reads.Asked,
-  size-at-reads.Learnt,
-  judge-row-below t,
-  judge-row.Post,
-  add-reads.Asked,
-  add-reads.Learnt,
-  rule-reads.Asked,
-  rule-reads.Learnt,
-) (judge-row-at t) judge-row.Post judge-row-Inv-loop judge-row-μ-loop
+judge-row-same-length-2 : (t : ℕ) → judge-row-lts.Need-same-length-2 (judge-row-claims t) (judge-row-at t) judge-row.Post judge-row-Inv-loop judge-row-μ-loop
 judge-row-same-length-2 t c = c .before .before .loop .inv .kept
 
-judge-row-returns-2 : (t : ℕ) → judge-row-lts.Need-returns-2 (
-  kind-at-reads.Asked,
-  kind-at-reads.Learnt,
-  number-at-reads.Asked,
-  number-at-reads.Learnt,
-  judge-cited-reads.Asked,
-  judge-cited-reads.Learnt,
-  new-reads.Asked,
-  new-reads.Learnt,
-  size-at-reads.Asked,
-  size-at-reads.Learnt,
-  judge-row-below t,
-  judge-row.Post,
-  add-reads.Asked,
-  add-reads.Learnt,
-  rule-reads.Asked,
-  rule-reads.Learnt,
-) (judge-row-at t) judge-row.Post judge-row-Inv-loop judge-row-μ-loop
+judge-row-returns-2 : (t : ℕ) → judge-row-lts.Need-returns-2 (judge-row-claims t) (judge-row-at t) judge-row.Post judge-row-Inv-loop judge-row-μ-loop
 judge-row-returns-2 t c = laws.state-ends (c .before .before .before .before .before .before .before .before .before .before .args .value .now) (c .before .before .before .before .before .before .before .before .before .before .args .tree .now) (c .before .before .before .before .before .before .before .before .before .before .pre .1 .0) (c .before .before .loop .inv) (omega arith) _ (c .before .before .before .before .before .before .kind-at .ensures .0) (c .before .before .before .before .if1 .left) _ (c .rule .ensures) refl
 
 pub +judge-row-spec : {M : Type 1} → statement M
