@@ -4,7 +4,7 @@ use std::hint::black_box;
 use std::path::Path;
 use std::time::Instant;
 
-use crate::oracle::LONGEST_TEXT;
+use crate::oracle::{LONGEST_TEXT, MOST_OPEN};
 use crate::original::conditions::{EvalError, Expr, Status, Truth};
 use crate::original::formatbedingung;
 use crate::tree;
@@ -29,7 +29,10 @@ impl Line {
     fn new(status: &str, letters: &str, value: &str) -> Result<Self, String> {
         let read = Status::parse(status).ok_or(format!("no status: {status}"))?;
         let tree = read.expr.as_ref().map(tree::encode).unwrap_or_default();
-        let answers: Vec<u8> = letters.bytes().map(|letter| b"futne".iter().position(|b| *b == letter).unwrap_or(5) as u8).collect();
+        let answers: Vec<u8> = letters
+            .bytes()
+            .map(|letter| b"futne".iter().position(|b| *b == letter).unwrap_or(5) as u8)
+            .collect();
         let cited = read.expr.as_ref().map_or(0, |expr| expr.cited().len());
         if cited != answers.len() {
             return Err(format!("{cited} citations, {} answers: {status}", answers.len()));
@@ -105,7 +108,10 @@ fn print(tree: &[u8], out: &mut [u8]) -> u64 {
 fn row(name: &str, what: &str, lines: &[&Line], mut rust: impl FnMut(&Line), mut ours: impl FnMut(&Line)) {
     let (theirs, us) = (time(lines, &mut rust), time(lines, &mut ours));
     let (their_stack, our_stack) = (stack(lines, &mut rust), stack(lines, &mut ours));
-    println!("| {name} | {what} | {theirs:.0} | {us:.0} | {:.2} | {their_stack} | {our_stack} |", theirs / us);
+    println!(
+        "| {name} | {what} | {theirs:.0} | {us:.0} | {:.2} | {their_stack} | {our_stack} |",
+        theirs / us
+    );
 }
 
 fn reading(name: &str, lines: &[&Line]) {
@@ -133,11 +139,15 @@ fn judging(name: &str, lines: &[&Line]) {
 
 /// The original's presence with an oracle that looks the text up in a list made beforehand.
 fn evaluated_by_text<'a>(lines: &[&'a Line]) -> impl FnMut(&Line) + use<'a> {
-    let lists: Vec<(*const Line, Vec<(&str, Truth)>)> = lines.iter().map(|l| (*l as *const Line, l.by_text())).collect();
+    let lists: Vec<(*const Line, Vec<(&str, Truth)>)> =
+        lines.iter().map(|l| (*l as *const Line, l.by_text())).collect();
     let mut next = 0;
     move |line| {
         if lists[next].0 != line as *const Line {
-            next = lists.iter().position(|(known, _)| *known == line as *const Line).expect("a line of the table");
+            next = lists
+                .iter()
+                .position(|(known, _)| *known == line as *const Line)
+                .expect("a line of the table");
         }
         let list = &lists[next].1;
         next = (next + 1) % lists.len();
@@ -151,7 +161,8 @@ fn evaluated_by_text<'a>(lines: &[&'a Line]) -> impl FnMut(&Line) + use<'a> {
 /// The original's presence with an oracle that does not look at the text: the next answer byte.
 fn evaluated_in_turn(line: &Line) {
     let mut next = line.answers.iter().cycle();
-    let mut oracle = |_: &str| -> Result<Truth, EvalError> { Ok(next.next().map_or(Truth::Unknown, |a| truth(*a))) };
+    let mut oracle =
+        |_: &str| -> Result<Truth, EvalError> { Ok(next.next().map_or(Truth::Unknown, |a| truth(*a))) };
     used(line.expr().eval(&mut oracle));
 }
 
@@ -178,14 +189,19 @@ fn nested(cited: &str, last: &str, depth: usize) -> String {
     (0..depth).map(part).collect::<String>() + &format!("[{last}]") + &")".repeat(depth)
 }
 
-/// The worst cases inside the limits; of white space only reading is asked, since the tree is that of `[1]`.
+/// The worst cases inside the limits whose trees are large too; two more are only read, since their tree is that of `[1]`.
 fn worst() -> Result<Vec<(&'static str, Line)>, String> {
     let hints = nested("500", "1", 200).replace('∧', "⊻");
+    let only = nested("500", "501", 200).replace('∧', "⊻");
     Ok(vec![
-        ("256 citations, operators in turn", Line::new(&format!("X {}", in_turn(256)), &"t".repeat(256), "1")?),
+        (
+            "256 citations, operators in turn",
+            Line::new(&format!("X {}", in_turn(256)), &"t".repeat(256), "1")?,
+        ),
         ("254 deep", Line::new(&format!("X {}", nested("1", "2", 254)), &"t".repeat(255), "1")?),
         ("256 violations", Line::new(&format!("X {}", ["[903]"; 256].join(" ")), &"n".repeat(256), "0")?),
         ("hints under 200 nested choices", Line::new(&format!("X {hints}"), &("n".repeat(200) + "t"), "1")?),
+        ("hints only, under 200 nested choices", Line::new(&format!("X {only}"), &"n".repeat(201), "1")?),
     ])
 }
 
@@ -200,8 +216,12 @@ fn tables(path: &Path) -> Result<bool, String> {
     let table = table(path)?;
     let all: Vec<&Line> = table.iter().collect();
     let with_tree: Vec<&Line> = table.iter().filter(|line| line.expr.is_some()).collect();
-    println!("Medians of {RUNS} runs. Nanoseconds a call; bytes of stack. Buffers are not cleared between calls.\n");
-    println!("| input | function | Rust | ours | ratio | stack, Rust | stack, ours |\n|---|---|---:|---:|---:|---:|---:|");
+    println!(
+        "Medians of {RUNS} runs. Nanoseconds a call; bytes of stack. Buffers are not cleared between calls.\n"
+    );
+    println!(
+        "| input | function | Rust | ours | ratio | stack, Rust | stack, ours |\n|---|---|---:|---:|---:|---:|---:|"
+    );
     let name = format!("table of {} lines", table.len());
     reading(&name, &all);
     judging(&name, &with_tree);
@@ -211,5 +231,7 @@ fn tables(path: &Path) -> Result<bool, String> {
     }
     let spaces = Line::new(&format!("X [1]{}", " ".repeat(LONGEST_TEXT - 5)), "t", "1")?;
     reading("4,400 bytes, white space", &[&spaces]);
+    let open = Line::new(&format!("X {}[1]{}", "(".repeat(MOST_OPEN), ")".repeat(MOST_OPEN)), "t", "1")?;
+    reading("256 parentheses around one citation", &[&open]);
     Ok(true)
 }

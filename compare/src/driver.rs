@@ -86,6 +86,18 @@ impl Outcome {
         total
     }
 
+    /// The cases of each function, in a line.
+    fn by_function(&self) -> String {
+        let words =
+            self.counts.iter().map(|(function, count)| format!("{} {}", function.word(), count.cases));
+        format!(
+            "{} cases, {} differences: {}",
+            self.total().cases,
+            self.total().differences,
+            words.collect::<Vec<_>>().join(", ")
+        )
+    }
+
     fn count(&mut self, function: Function, origin: Origin) -> &mut Count {
         let count = self.counts.entry(function).or_default();
         count.cases += 1;
@@ -310,10 +322,12 @@ fn difference(
 /// Runs the comparison to its end, or to the first difference if the plan says so.
 pub fn run(plan: &Plan, known: &[Function]) -> Outcome {
     let (to_comparer, batches) = sync_channel(1);
-    let (long, seed, known, listed, stop) = (plan.long, plan.seed, known.to_vec(), plan.listed.clone(), plan.stop);
+    let (long, seed, known, listed, stop) =
+        (plan.long, plan.seed, known.to_vec(), plan.listed.clone(), plan.stop);
     let producer = thread::spawn(move || {
         let caller = Caller::new(listed, stop);
-        let mut producer = Producer { batch: Batch::default(), to_comparer, open: true, line: Vec::new(), caller };
+        let mut producer =
+            Producer { batch: Batch::default(), to_comparer, open: true, line: Vec::new(), caller };
         let mut take = |function, fields: &[&[u8]]| {
             producer.take(function, fields);
             producer.caller.report("cases by subject");
@@ -330,8 +344,14 @@ pub fn run(plan: &Plan, known: &[Function]) -> Outcome {
     let mut outcome = comparer.outcome;
     outcome.failure = failure;
     match producer.join() {
-        Ok(called) => outcome.add(called),
-        Err(_) => outcome.failure = outcome.failure.or(Some("the oracle failed; its own message stands above".to_owned())),
+        Ok(called) => {
+            println!("cases by subject, in process, seed {}: {}", plan.seed, called.by_function());
+            outcome.add(called);
+        }
+        Err(_) => {
+            outcome.failure =
+                outcome.failure.or(Some("the oracle failed; its own message stands above".to_owned()))
+        }
     }
     if plan.rounds > 0 && outcome.failure.is_none() && outcome.total().differences == 0 {
         outcome.add(many(plan));
@@ -350,9 +370,12 @@ fn many(plan: &Plan) -> Outcome {
     };
     let started: Vec<_> = (1..=threads).map(start).collect();
     let mut outcome = Outcome::default();
-    for thread in started {
+    for (number, thread) in (1..).zip(started) {
         match thread.join() {
-            Ok(called) => outcome.add(called),
+            Ok(called) => {
+                println!("seed {}: {}", plan.seed * 1_000 + number, called.by_function());
+                outcome.add(called);
+            }
             Err(_) => outcome.failure = Some("the oracle failed; its own message stands above".to_owned()),
         }
     }

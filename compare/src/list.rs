@@ -87,7 +87,8 @@ fn paper_entries(known: &[Function]) -> Result<Vec<Entry>, String> {
 
 fn limit_entries(known: &[Function]) -> Vec<Entry> {
     let mut entries = Vec::new();
-    let mut take = |function, fields: &[&[u8]]| entries.push(entry(LIMITS, function, &line(function, fields)));
+    let mut take =
+        |function, fields: &[&[u8]]| entries.push(entry(LIMITS, function, &line(function, fields)));
     let mut cases = Cases::new(false, 1, known, &mut take);
     cases::limits::limits(&mut cases);
     cases::protocol::requestless(&mut cases);

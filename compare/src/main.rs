@@ -57,7 +57,8 @@ fn run(long: bool) -> Result<bool, String> {
     let listed = Listed::from_file(&root().join("docs/DIFFERENCES.md"));
     let stop = env::var_os("STOP_AT_FIRST").is_some();
     let rounds = number("ROUNDS", if long { LONG_ROUNDS } else { 0 })?;
-    let plan = Plan { replay: &replay, long, seed: number("SEED", 1)?, stop, rounds, listed: Arc::new(listed) };
+    let plan =
+        Plan { replay: &replay, long, seed: number("SEED", 1)?, stop, rounds, listed: Arc::new(listed) };
     println!("replay {}, seed {}", replay.display(), plan.seed);
     let asked = tables::compare(&root().join("target/bin/tables"))?;
     println!("white space and status words: {asked} questions, no difference");
@@ -85,7 +86,10 @@ fn report(outcome: &Outcome, known: &[Function]) {
     println!("\n{:<11}{:>12}{:>13}{:>9}{:>13}", "function", "cases", "in process", "by time", "differences");
     for (function, count) in &outcome.counts {
         let word = function.word();
-        println!("{word:<11}{:>12}{:>13}{:>9}{:>13}", count.cases, count.called, count.timed, count.differences);
+        println!(
+            "{word:<11}{:>12}{:>13}{:>9}{:>13}",
+            count.cases, count.called, count.timed, count.differences
+        );
     }
     println!("demand 3 on both sides: {} trees", outcome.trees);
     let missing: Vec<&str> = Function::ALL.iter().filter(|f| !known.contains(f)).map(|f| f.word()).collect();

@@ -19,7 +19,9 @@ fn due() -> (Vec<String>, usize) {
         asked += 1;
         // outside a citation white space is what may stand between two citations and is no operator or parenthesis
         let between = Expr::parse(&format!("[1]{c}[2]")).is_ok_and(|e| e.cited() == ["1", "2"]);
-        if between && Expr::parse(&c.to_string()).is_err_and(|e| e == crate::original::conditions::ExprError::Empty) {
+        if between
+            && Expr::parse(&c.to_string()).is_err_and(|e| e == crate::original::conditions::ExprError::Empty)
+        {
             lines.push(format!("white {:06x}", u32::from(c)));
         }
     }

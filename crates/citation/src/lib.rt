@@ -1,7 +1,8 @@
 // What a citation is: its kind, the bounds of a Paket citation, and the truth that is said of a condition.
 ghost use mathlib.Core.Path.{_≡_};
+ghost use Rattle.text.specs.Digits.{digitsUpTo};
 ghost use Rattle.citation.specs.Truths.{truthNumber, truthOf};
-ghost use Rattle.citation.specs.Kinds.{kindNumber, kindOfNumber, kindOf, kindSaid, kindAnswer};
+ghost use Rattle.citation.specs.Kinds.{kindNumber, largestNumber, kindOfNumber, kindOf, kindSaid, kindAnswer};
 ghost use Rattle.citation.specs.Pakete.{rangeOf, boundsOf, paketOf, paketSaid, paketAnswer};
 use refusal::Refusal;
 use text::Found;
@@ -11,6 +12,9 @@ use utf8::Admitted;
 const LARGEST_NUMBER: u64 = 4294967295;
 
 const LARGEST_BOUND: u64 = 18446744073709551615;
+
+// A number up to this one and one more digit are no larger than the largest number.
+const SMALL_NUMBER: u64 = 429496728;
 
 // The value of a condition.
 pub enum Truth {
@@ -54,6 +58,39 @@ pub enum ConditionKind {
 pub enum KindAnswer {
     Known(ConditionKind),
     Refused(Refusal),
+}
+
+fn wide(b: u8) -> u64
+    ensures { λ r. ⌜ r ≡ b ⌝ }
+{
+    b as u64
+}
+
+// The number that digits write, as `text::digits_up_to` says it, with a test that is cheap while the number is small.
+fn digits_of(text: &[u8]) -> Found
+    ensures { λ r. ⌜ r ≡ digitsUpTo largestNumber (now (text .entry)) ⌝ }
+{
+    if text.len() == 0 {
+        return Found::Nothing;
+    }
+    let mut n: u64 = 0;
+    let mut i = 0;
+    while i < text.len() {
+        let b = text[i];
+        if b < 48 {
+            return Found::Nothing;
+        }
+        if 57 < b {
+            return Found::Nothing;
+        }
+        if SMALL_NUMBER < n {
+            return text::digits_up_to(text, LARGEST_NUMBER);
+        }
+        let d = wide(b) - 48;
+        n = n * 10 + d;
+        i += 1;
+    }
+    Found::Number(n)
 }
 
 impl ConditionKind {
@@ -104,7 +141,7 @@ impl ConditionKind {
     pub fn of_text(text: &[u8]) -> ConditionKind
         ensures { λ r. ⌜ r ≡ kindOf (now (text .entry)) ⌝ }
     {
-        let digits = text::digits_up_to(text, LARGEST_NUMBER);
+        let digits = digits_of(text);
         match digits {
             Found::Number(n) => ConditionKind::of_number(n),
             Found::Nothing => ConditionKind::of_any(text),

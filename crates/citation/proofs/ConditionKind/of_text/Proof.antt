@@ -4,8 +4,8 @@ use borrow.Author.Needs.{needs}
 use Rattle.citation.proofs.ConditionKind.of_text.Statement.{statement}
 use Rattle.citation.proofs.ConditionKind.of_text.Tie as tie
 
-digits-up-to-requires : tie.Need-digits-up-to-requires
-digits-up-to-requires c κs = search needs
+digits-of-requires : tie.Need-digits-of-requires
+digits-of-requires c κs = search needs
 
 enum-known-digits : tie.Need-enum-known-digits
 enum-known-digits c = search needs
@@ -20,7 +20,7 @@ of-any-requires : tie.Need-of-any-requires
 of-any-requires c κs = search needs
 
 returns : tie.Need-returns
-returns c = c .of-number .ensures ∙ digits-kind _ _ (sym (c .before .before .before .before .digits-up-to .ensures) ∙ c .before .before .digits .given .1)
+returns c = c .of-number .ensures ∙ digits-kind _ _ (sym (c .before .before .before .before .digits-of .ensures) ∙ c .before .before .digits .given .1)
 
 returns-2 : tie.Need-returns-2
 returns-2 c = c .of-any .ensures
@@ -29,7 +29,7 @@ pub of-text-spec : {M : Type 1} → statement M
 of-text-spec =
     tie.close
     (tie.spec
-    digits-up-to-requires
+    digits-of-requires
     enum-known-digits
     of-number-requires
     enum-told
