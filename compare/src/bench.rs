@@ -201,6 +201,11 @@ fn worst() -> Result<Vec<(&'static str, Line)>, String> {
         ("254 deep", Line::new(&format!("X {}", nested("1", "2", 254)), &"t".repeat(255), "1")?),
         ("256 violations", Line::new(&format!("X {}", ["[903]"; 256].join(" ")), &"n".repeat(256), "0")?),
         ("hints under 200 nested choices", Line::new(&format!("X {hints}"), &("n".repeat(200) + "t"), "1")?),
+        ("one citation of 2,048 bytes, ASCII", Line::new(&format!("X [{}]", "a".repeat(2_048)), "n", "1")?),
+        (
+            "one citation of 2,048 bytes, no ASCII",
+            Line::new(&format!("X [{}]", "é".repeat(1_024)), "n", "1")?,
+        ),
         ("hints only, under 200 nested choices", Line::new(&format!("X {only}"), &"n".repeat(201), "1")?),
     ])
 }
