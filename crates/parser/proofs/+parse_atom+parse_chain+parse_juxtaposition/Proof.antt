@@ -524,14 +524,7 @@ parse-juxtaposition-returns-4 t c = let s = c .before .before .before .before .b
 
 pub +parse-atom+parse-chain+parse-juxtaposition-spec : {M : Type 1} → statement M
 +parse-atom+parse-chain+parse-juxtaposition-spec =
-    close μ-parse-atom μ-parse-chain μ-parse-juxtaposition (λ t. parse-atom-lts.spec (
-      past-token-reads.Asked,
-      past-token-reads.Learnt,
-      parse-chain-below t,
-      parse-chain.Post,
-      pack-row-reads.Asked,
-      pack-row-reads.Learnt,
-    )
+    close μ-parse-atom μ-parse-chain μ-parse-juxtaposition (λ t. parse-atom-lts.spec (parse-atom-claims t)
     (parse-atom-at t)
     parse-atom.Post
     (parse-atom-returns t)
@@ -556,16 +549,7 @@ pub +parse-atom+parse-chain+parse-juxtaposition-spec : {M : Type 1} → statemen
     (parse-atom-add-t26 t)
     (parse-atom-same-length-4 t)
     (parse-atom-returns-6 t))
-    (λ t. parse-chain-lts.spec (
-      parse-juxtaposition-below t,
-      parse-juxtaposition.Post,
-      op-at-reads.Asked,
-      op-at-reads.Learnt,
-      led-reads.Asked,
-      led-reads.Learnt,
-      grow-reads.Asked,
-      grow-reads.Learnt,
-    )
+    (λ t. parse-chain-lts.spec (parse-chain-claims t)
     (parse-chain-at t)
     parse-chain.Post
     parse-chain-Inv-loop
@@ -592,14 +576,7 @@ pub +parse-atom+parse-chain+parse-juxtaposition-spec : {M : Type 1} → statemen
     (parse-chain-returns-3 t)
     (parse-chain-same-length-4 t)
     (parse-chain-returns-4 t))
-    λ t. parse-juxtaposition-lts.spec (
-      parse-atom-below t,
-      parse-atom.Post,
-      operand-at-reads.Asked,
-      operand-at-reads.Learnt,
-      add-node-reads.Asked,
-      add-node-reads.Learnt,
-    )
+    λ t. parse-juxtaposition-lts.spec (parse-juxtaposition-claims t)
     (parse-juxtaposition-at t)
     parse-juxtaposition.Post
     parse-juxtaposition-Inv-loop

@@ -164,28 +164,7 @@ eval-node-returns-4 : (t : ℕ) → eval-node-lts.Need-returns-4 (eval-node-clai
 eval-node-returns-4 t c = ap ok (c .rule .ensures) ∙ evaluating-ends _ _ _ _ _ _ _ (c .before .before .loop .inv) (omega arith)
 
 pub +eval-node-spec : {M : Type 1} → statement M
-+eval-node-spec = close μ-eval-node λ t. eval-node-lts.spec (
-  kind-at-reads.Asked,
-  kind-at-reads.Learnt,
-  mixed-reads.Asked,
-  mixed-reads.Learnt,
-  number-at-reads.Asked,
-  number-at-reads.Learnt,
-  new-reads.Asked,
-  new-reads.Learnt,
-  size-at-reads.Asked,
-  size-at-reads.Learnt,
-  drops-reads.Asked,
-  drops-reads.Learnt,
-  answer-at-reads.Asked,
-  answer-at-reads.Learnt,
-  add-reads.Asked,
-  add-reads.Learnt,
-  eval-node-below t,
-  eval-node.Post,
-  rule-reads.Asked,
-  rule-reads.Learnt,
-)
++eval-node-spec = close μ-eval-node λ t. eval-node-lts.spec (eval-node-claims t)
     (eval-node-at t)
     eval-node.Post
     eval-node-Inv-loop

@@ -145,24 +145,7 @@ print-row-returns-2 : (t : ℕ) → print-row-lts.Need-returns-2 (print-row-clai
 print-row-returns-2 t c = walks.finish _ _ _ _ _ _ _ _ _ _ (c .before .loop .inv) (omega arith)
 
 pub +print-row-spec : {M : Type 1} → statement M
-+print-row-spec = close μ-print-row λ t. print-row-lts.spec (
-  kind-at-reads.Asked,
-  kind-at-reads.Learnt,
-  number-at-reads.Asked,
-  number-at-reads.Learnt,
-  put-cite-reads.Asked,
-  put-cite-reads.Learnt,
-  size-at-reads.Asked,
-  size-at-reads.Learnt,
-  put-separator-reads.Asked,
-  put-separator-reads.Learnt,
-  put-left-reads.Asked,
-  put-left-reads.Learnt,
-  print-row-below t,
-  print-row.Post,
-  put-right-reads.Asked,
-  put-right-reads.Learnt,
-)
++print-row-spec = close μ-print-row λ t. print-row-lts.spec (print-row-claims t)
     (print-row-at t)
     print-row.Post
     print-row-Inv-loop

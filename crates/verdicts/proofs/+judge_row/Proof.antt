@@ -112,24 +112,7 @@ judge-row-returns-2 : (t : ℕ) → judge-row-lts.Need-returns-2 (judge-row-clai
 judge-row-returns-2 t c = laws.state-ends (c .before .before .before .before .before .before .before .before .before .before .args .value .now) (c .before .before .before .before .before .before .before .before .before .before .args .tree .now) (c .before .before .before .before .before .before .before .before .before .before .pre .1 .0) (c .before .before .loop .inv) (omega arith) _ (c .before .before .before .before .before .before .kind-at .ensures .0) (c .before .before .before .before .if1 .left) _ (c .rule .ensures) refl
 
 pub +judge-row-spec : {M : Type 1} → statement M
-+judge-row-spec = close μ-judge-row λ t. judge-row-lts.spec (
-  kind-at-reads.Asked,
-  kind-at-reads.Learnt,
-  number-at-reads.Asked,
-  number-at-reads.Learnt,
-  judge-cited-reads.Asked,
-  judge-cited-reads.Learnt,
-  new-reads.Asked,
-  new-reads.Learnt,
-  size-at-reads.Asked,
-  size-at-reads.Learnt,
-  judge-row-below t,
-  judge-row.Post,
-  add-reads.Asked,
-  add-reads.Learnt,
-  rule-reads.Asked,
-  rule-reads.Learnt,
-)
++judge-row-spec = close μ-judge-row λ t. judge-row-lts.spec (judge-row-claims t)
     (judge-row-at t)
     judge-row.Post
     judge-row-Inv-loop
