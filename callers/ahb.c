@@ -176,9 +176,41 @@ static void choosing(void) {
     assert(eval("neutral", out, ahb_length_of(answer), neutral, 1) == AHB_PRESENT + AHB_NEUTRAL);
 }
 
+/* The largest results just fit the buffers that the header names. */
+static void largest(void) {
+    static char text[AHB_TEXT_LIMIT];
+    static uint8_t tree[AHB_TREE_SIZE];
+    size_t n = AHB_CITATION_LIMIT - 2;
+
+    memset(text, '(', n);
+    for (size_t i = 0; i < AHB_CITATION_LIMIT; i++) {
+        if (i > 0) {
+            memcpy(text + n, i % 2 == 0 ? "\xE2\x88\xA7" : "\xE2\x88\xA8", 3);
+            n += 3;
+        }
+        memcpy(text + n, "[12345678]", 10);
+        n += 10;
+        if (i > 0 && i + 1 < AHB_CITATION_LIMIT)
+            text[n++] = ')';
+    }
+    assert(read_bytes("largest tree", AHB_READ_EXPRESSION, bytes_of(text), n, AHB_TREE_SIZE) ==
+           AHB_ACCEPTED + 7 * 65536 + AHB_TREE_SIZE);
+    assert(read_bytes("largest tree, one short", AHB_READ_EXPRESSION, bytes_of(text), n, AHB_TREE_SIZE - 1) ==
+           AHB_NO_ROOM);
+
+    for (size_t i = 0; i < AHB_CITATION_LIMIT; i++)
+        memcpy(text + 5 * i, "[902]", 5);
+    n = ahb_length_of(read_bytes("256 times [902]", AHB_READ_EXPRESSION, bytes_of(text), 5 * AHB_CITATION_LIMIT,
+                                 AHB_TREE_SIZE));
+    memcpy(tree, out, n);
+    assert(violations("all violated", tree, n, NULL, 0, AHB_VIOLATIONS_SIZE) == AHB_ACCEPTED + AHB_CITATION_LIMIT);
+    assert(violations("all violated, one short", tree, n, NULL, 0, AHB_VIOLATIONS_SIZE - 1) == AHB_NO_ROOM);
+}
+
 int main(void) {
     reading();
     judging();
     choosing();
+    largest();
     return 0;
 }

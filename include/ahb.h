@@ -28,7 +28,6 @@ extern "C" {
 
 /* Buffers that hold every result. */
 #define AHB_TREE_SIZE 6150      /* a tree */
-#define AHB_PRINT_SIZE 4343     /* the print of a tree */
 #define AHB_VIOLATIONS_SIZE 512 /* the numbers of violated citations, 2 bytes each, the low one first */
 
 /* Why an input is turned back. */

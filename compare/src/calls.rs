@@ -1,9 +1,13 @@
 //! Reading, presence and verdicts, called in process through the library for callers.
 
+#[cfg(feature = "library")]
 use ahb::{Refusal, StatusKind, Truth};
 
 use crate::oracle::Answer;
 use crate::request::Function;
+
+/// Whether this build has the library.
+pub const LINKED: bool = cfg!(feature = "library");
 
 /// What the library says, in the words of the line protocol, and what the lent buffer holds afterwards.
 pub struct Said {
@@ -11,7 +15,14 @@ pub struct Said {
     pub lent: Vec<u8>,
 }
 
+/// Without the library nothing is called.
+#[cfg(not(feature = "library"))]
+pub fn ask(_: Function, _: &[&[u8]]) -> Said {
+    unreachable!("this build has no library")
+}
+
 /// Asks an exported function; a lent buffer is the last field.
+#[cfg(feature = "library")]
 pub fn ask(function: Function, fields: &[&[u8]]) -> Said {
     let mut lent = if function.lends() { fields[fields.len() - 1].to_vec() } else { Vec::new() };
     let words = match function {
@@ -26,10 +37,12 @@ pub fn ask(function: Function, fields: &[&[u8]]) -> Said {
     Said { words: words.unwrap_or_else(refused), lent }
 }
 
+#[cfg(feature = "library")]
 fn truth_word(truth: Truth) -> String {
     truth.number().to_string()
 }
 
+#[cfg(feature = "library")]
 fn status_words((kind, length): (StatusKind, Option<usize>)) -> String {
     let code = kind.code();
     match length {

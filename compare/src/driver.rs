@@ -1,11 +1,12 @@
 //! Calls the library in process and sends the rest to `replay`; holds the answers to the oracle's.
 
 use std::collections::BTreeMap;
+use std::fs;
 use std::io::{BufRead, BufReader, Read, Write};
-use std::path::Path;
+use std::path::{Path, PathBuf};
 use std::process::{Child, ChildStdout, Command, Stdio};
-use std::sync::Arc;
 use std::sync::mpsc::{Receiver, SyncSender, sync_channel};
+use std::sync::{Arc, Mutex};
 use std::thread;
 use std::time::{Duration, Instant};
 
@@ -13,14 +14,20 @@ use crate::calls;
 use crate::cases::{self, Cases};
 use crate::listed::Listed;
 use crate::oracle::{self, Answer, Origin};
-use crate::request::{BAD_REQUEST, Function, write_hex, write_request};
+use crate::request::{self, BAD_REQUEST, Function, write_hex, write_request};
+use crate::tried::{Folder, MOST_WRITTEN, Written};
 
-/// Requests that one process is given; it ends before the next begins, so that
-/// it may keep its answers back as long as it likes.
-const BATCH_BYTES: usize = 8 << 20;
 const PROGRESS: Duration = Duration::from_secs(4);
-/// Of so many calls in process one is sent to replay too.
-const ALSO_PIPED: u64 = 16;
+
+/// The bytes of requests that one process is given; it ends before the next begins, so that it may keep its answers back
+/// as long as it likes. One that is tried is compiled for each batch.
+const BATCH_REQUESTS: usize = if calls::LINKED { 8 << 20 } else { 24 << 20 };
+/// The bytes of answers that one process is asked for where it is tried: an answer has hardly more bytes than the longest
+/// request.
+const BATCH_DUE: usize = MOST_WRITTEN - (1 << 17);
+/// Bytes up to which a request and an answer are short.
+const SHORT: (usize, usize) = (160, 4);
+const TRIED_AT_ONCE: usize = 2;
 
 /// Requests in a row with the answers that are due, a line each.
 #[derive(Default)]
@@ -30,9 +37,16 @@ struct Batch {
     cases: Vec<(Function, Origin)>,
 }
 
+/// The program that is asked.
+pub enum Replay {
+    Linked(PathBuf),
+    /// Compiled by `rt try`, from the repository at this folder.
+    Tried(PathBuf),
+}
+
 /// How a comparison is to be run.
 pub struct Plan<'a> {
-    pub replay: &'a Path,
+    pub replay: &'a Replay,
     pub long: bool,
     pub seed: u64,
     /// Whether to stop at the first difference.
@@ -106,6 +120,12 @@ impl Outcome {
         count
     }
 
+    fn count_all(&mut self, cases: &[(Function, Origin)]) {
+        for (function, origin) in cases {
+            self.count(*function, *origin);
+        }
+    }
+
     fn differs(&mut self, listed: &Listed, function: Function, difference: Difference) {
         let count = self.counts.entry(function).or_default();
         if listed.has(&difference.request, &difference.due, &difference.said) {
@@ -166,8 +186,11 @@ fn ended(child: &mut Child) -> Result<(), String> {
     if status.success() { Ok(()) } else { Err(format!("replay ended with {status}")) }
 }
 
-/// The functions that replay does not answer `bad request`.
-pub fn known(replay: &Path) -> Result<Vec<Function>, String> {
+/// The functions that replay does not answer `bad request`; one that is tried is held to all of them.
+pub fn known(replay: &Replay) -> Result<Vec<Function>, String> {
+    let Replay::Linked(replay) = replay else {
+        return Ok(Function::ALL.to_vec());
+    };
     let mut input = Vec::new();
     for function in Function::ALL {
         input.extend(function.probe());
@@ -184,7 +207,10 @@ pub fn known(replay: &Path) -> Result<Vec<Function>, String> {
 }
 
 /// Inputs without a last line feed, and no input at all.
-pub fn check_ends(replay: &Path) -> Result<(), String> {
+pub fn check_ends(replay: &Replay) -> Result<(), String> {
+    let Replay::Linked(replay) = replay else {
+        return Ok(());
+    };
     for (input, due) in [("", ""), ("kind 31", "0\n"), ("kind 31\nx", "0\nbad request\n")] {
         let said = answers(replay, input.as_bytes())?;
         if said != due.as_bytes() {
@@ -208,6 +234,20 @@ impl Drop for Asked<'_> {
     }
 }
 
+/// Of so many requests of a function one is sent to replay. Where it is linked, what the library exports is called in
+/// process besides; where it is tried, it is compiled for each batch, also runs without optimization, and may not write much.
+fn one_in(function: Function, long: bool) -> u64 {
+    match (calls::LINKED, function.exported()) {
+        _ if function == Function::Protocol => 1,
+        (true, true) => 16,
+        (true, false) => 1,
+        (false, true) if function.lends() => 241,
+        (false, false) if function.lends() => 31,
+        (false, _) if long => 7,
+        (false, _) => 1,
+    }
+}
+
 /// Answers in process, or fills batches and hands them on.
 struct Producer {
     batch: Batch,
@@ -215,36 +255,74 @@ struct Producer {
     open: bool,
     line: Vec<u8>,
     caller: Caller,
+    /// The requests of each function.
+    asked: BTreeMap<Function, u64>,
 }
 
 impl Producer {
+    fn new(to_comparer: SyncSender<Batch>, caller: Caller) -> Self {
+        let asked = BTreeMap::new();
+        Self { batch: Batch::default(), to_comparer, open: true, line: Vec::new(), caller, asked }
+    }
+
+    /// Lines as they stand, all of them for replay.
+    fn take_lines(&mut self, text: &[u8]) {
+        for line in text.split_inclusive(|b| *b == b'\n') {
+            self.line = line.strip_suffix(b"\n").unwrap_or(line).to_vec();
+            let function = request::parse(&self.line).map_or(Function::Protocol, |(function, _)| function);
+            let origin = self.answer(function);
+            self.pipe(function, origin);
+        }
+    }
+
     fn take(&mut self, function: Function, fields: &[&[u8]]) {
         if !self.open {
             return;
         }
         let _asked = Asked(function, fields);
-        let called = function.exported();
-        if called {
+        if calls::LINKED && function.exported() {
             self.open = self.caller.call(function, fields);
         }
-        if called && self.caller.calls % ALSO_PIPED != 0 {
+        if function.lends() && !self.has_turn(function, true) {
             return;
         }
         self.line.clear();
         write_request(function, fields, &mut self.line);
-        self.pipe(function);
+        let due = self.batch.due.len();
+        let origin = self.answer(function);
+        let long = self.line.len() > SHORT.0 || self.batch.due.len() - due > SHORT.1;
+        if function.lends() || self.has_turn(function, long) {
+            self.pipe(function, origin);
+        } else {
+            self.batch.due.truncate(due);
+        }
     }
 
-    fn pipe(&mut self, function: Function) {
-        let batch = &mut self.batch;
-        let origin = oracle::answer(&self.line, &mut batch.due);
-        batch.due.push(b'\n');
-        batch.requests.extend_from_slice(&self.line);
-        batch.requests.push(b'\n');
+    /// Whether replay is sent this request.
+    fn has_turn(&mut self, function: Function, long: bool) -> bool {
+        let of = one_in(function, long);
+        let asked = self.asked.entry(function).or_default();
+        *asked += u64::from(of > 1);
+        of == 1 || *asked % of == 0
+    }
+
+    /// Adds the line's answer to what is due.
+    fn answer(&mut self, function: Function) -> Origin {
+        let origin = oracle::answer(&self.line, &mut self.batch.due);
+        self.batch.due.push(b'\n');
         let request = function != Function::Protocol;
         assert!(!request || origin != Origin::Protocol, "a generator wrote no request");
+        origin
+    }
+
+    /// Sends the line, whose answer is the last that is due.
+    fn pipe(&mut self, function: Function, origin: Origin) {
+        let batch = &mut self.batch;
+        batch.requests.extend_from_slice(&self.line);
+        batch.requests.push(b'\n');
         batch.cases.push((function, origin));
-        if batch.requests.len() >= BATCH_BYTES {
+        let full = batch.requests.len() >= BATCH_REQUESTS || !calls::LINKED && batch.due.len() >= BATCH_DUE;
+        if full {
             self.send();
         }
     }
@@ -324,13 +402,19 @@ pub fn run(plan: &Plan, known: &[Function]) -> Outcome {
     let (to_comparer, batches) = sync_channel(1);
     let (long, seed, known, listed, stop) =
         (plan.long, plan.seed, known.to_vec(), plan.listed.clone(), plan.stop);
+    let first = match plan.replay {
+        Replay::Linked(_) => Vec::new(),
+        Replay::Tried(root) => fs::read(root.join("crates/replay/stdin")).unwrap_or_default(),
+    };
     let producer = thread::spawn(move || {
         let caller = Caller::new(listed, stop);
-        let mut producer =
-            Producer { batch: Batch::default(), to_comparer, open: true, line: Vec::new(), caller };
+        let mut producer = Producer::new(to_comparer, caller);
+        producer.take_lines(&first);
         let mut take = |function, fields: &[&[u8]]| {
             producer.take(function, fields);
-            producer.caller.report("cases by subject");
+            if calls::LINKED {
+                producer.caller.report("cases by subject");
+            }
         };
         let mut cases = Cases::new(long, seed, &known, &mut take);
         cases::all(&mut cases);
@@ -339,13 +423,15 @@ pub fn run(plan: &Plan, known: &[Function]) -> Outcome {
         producer.caller.outcome.trees = trees;
         producer.caller.outcome
     });
-    let mut comparer = Comparer { plan, outcome: Outcome::default(), last_report: Instant::now() };
-    let failure = comparer.compare(batches).err();
-    let mut outcome = comparer.outcome;
-    outcome.failure = failure;
+    let mut outcome = match plan.replay {
+        Replay::Linked(replay) => Comparer::of(plan).all(|comparer| comparer.compare(replay, batches)),
+        Replay::Tried(root) => tried(plan, root, batches),
+    };
     match producer.join() {
         Ok(called) => {
-            println!("cases by subject, in process, seed {}: {}", plan.seed, called.by_function());
+            if calls::LINKED {
+                println!("cases by subject, in process, seed {}: {}", plan.seed, called.by_function());
+            }
             outcome.add(called);
         }
         Err(_) => {
@@ -406,26 +492,41 @@ struct Comparer<'a> {
     last_report: Instant,
 }
 
-impl Comparer<'_> {
-    /// Compares every batch; an error is replay's failure to answer.
-    fn compare(&mut self, batches: Receiver<Batch>) -> Result<(), String> {
+impl<'a> Comparer<'a> {
+    fn of(plan: &'a Plan<'a>) -> Self {
+        Self { plan, outcome: Outcome::default(), last_report: Instant::now() }
+    }
+
+    /// What comes of comparing; an error is replay's failure to answer.
+    fn all(mut self, compare: impl FnOnce(&mut Self) -> Result<(), String>) -> Outcome {
+        self.outcome.failure = compare(&mut self).err();
+        self.outcome
+    }
+
+    /// Compares every batch.
+    fn compare(&mut self, replay: &Path, batches: Receiver<Batch>) -> Result<(), String> {
         for batch in batches {
-            self.compare_batch(Arc::new(batch))?;
-            let total = self.outcome.total();
-            if self.plan.stop && total.differences > 0 {
+            self.compare_batch(replay, Arc::new(batch))?;
+            if self.ends() {
                 break;
-            }
-            if self.last_report.elapsed() > PROGRESS {
-                self.last_report = Instant::now();
-                let word = self.outcome.last.map_or("", Function::word);
-                println!("{} cases, {} differences, at {word}", total.cases, total.differences);
             }
         }
         Ok(())
     }
 
-    fn compare_batch(&mut self, batch: Arc<Batch>) -> Result<(), String> {
-        let (mut child, mut answers) = start(self.plan.replay, batch.clone())?;
+    /// Whether to stop here; says how far it is, now and then.
+    fn ends(&mut self) -> bool {
+        let total = self.outcome.total();
+        if self.last_report.elapsed() > PROGRESS {
+            self.last_report = Instant::now();
+            let word = self.outcome.last.map_or("", Function::word);
+            println!("{} cases, {} differences, at {word}", total.cases, total.differences);
+        }
+        self.plan.stop && total.differences > 0
+    }
+
+    fn compare_batch(&mut self, replay: &Path, batch: Arc<Batch>) -> Result<(), String> {
+        let (mut child, mut answers) = start(replay, batch.clone())?;
         let mut requests = batch.requests.split(|b| *b == b'\n');
         let mut due = batch.due.split(|b| *b == b'\n');
         let mut said = Vec::new();
@@ -448,6 +549,98 @@ impl Comparer<'_> {
         ended(&mut child)?;
         if rest.is_empty() { Ok(()) } else { Err("replay wrote more lines than it was asked".into()) }
     }
+}
+
+/// Compares every batch with what a program writes that `rt try` compiles, some batches at a time.
+fn tried(plan: &Plan, root: &Path, batches: Receiver<Batch>) -> Outcome {
+    let batches = Mutex::new(Some(batches));
+    let next = || batches.lock().ok()?.as_ref()?.recv().ok();
+    let work = |number| {
+        Comparer::of(plan).all(|comparer| {
+            let folder = Folder::new(root, "replay", number)?;
+            while let Some(batch) = next() {
+                comparer.try_lines(&folder, Lines::of(&batch))?;
+                if comparer.ends() {
+                    batches.lock().ok().and_then(|mut batches| batches.take());
+                }
+            }
+            Ok(())
+        })
+    };
+    let mut outcome = Outcome::default();
+    thread::scope(|scope| {
+        let started: Vec<_> = (0..TRIED_AT_ONCE).map(|number| scope.spawn(move || work(number))).collect();
+        for worker in started {
+            match worker.join() {
+                Ok(done) => outcome.add(done),
+                Err(_) => outcome.failure = Some("a thread failed; its message stands above".to_owned()),
+            }
+        }
+    });
+    outcome
+}
+
+impl Comparer<'_> {
+    /// Compares lines up to their first difference, and on from there where that one is listed.
+    fn try_lines(&mut self, folder: &Folder, asked: Lines) -> Result<(), String> {
+        match folder.run(asked.requests, asked.due)? {
+            Written::AsDue => {
+                self.outcome.count_all(asked.cases);
+                Ok(())
+            }
+            Written::Late if asked.cases.len() > 1 => {
+                let (first, second) = asked.split(asked.cases.len() / 2);
+                self.try_lines(folder, first)?;
+                self.try_lines(folder, second)
+            }
+            Written::Late => Err(format!("replay takes too long over {}", shown(asked.requests))),
+            Written::Else { at, said } => {
+                let before = asked.due[..at].iter().filter(|b| **b == b'\n').count();
+                if before >= asked.cases.len() {
+                    return Err("replay wrote more lines than it was asked".into());
+                }
+                let (same, rest) = asked.split(before);
+                let (one, after) = rest.split(1);
+                self.outcome.count_all(same.cases);
+                self.outcome.count_all(one.cases);
+                let [request, due] =
+                    [one.requests, one.due].map(|line| line.strip_suffix(b"\n").unwrap_or(line));
+                let said = [&due[..at - same.due.len()], said.as_bytes()].concat();
+                let listed = self.outcome.total().listed;
+                let difference = Difference { request: request.to_vec(), due: due.to_vec(), said };
+                self.outcome.differs(&self.plan.listed, one.cases[0].0, difference);
+                let goes_on = self.outcome.total().listed > listed && !after.cases.is_empty();
+                if goes_on { self.try_lines(folder, after) } else { Ok(()) }
+            }
+        }
+    }
+}
+
+/// A part of a batch.
+#[derive(Clone, Copy)]
+struct Lines<'a> {
+    requests: &'a [u8],
+    due: &'a [u8],
+    cases: &'a [(Function, Origin)],
+}
+
+impl<'a> Lines<'a> {
+    fn of(batch: &'a Batch) -> Self {
+        Self { requests: &batch.requests, due: &batch.due, cases: &batch.cases }
+    }
+
+    /// The first so many lines, and the rest.
+    fn split(self, count: usize) -> (Self, Self) {
+        let ((requests, more), (due, more_due)) = (lines(self.requests, count), lines(self.due, count));
+        let (cases, more_cases) = self.cases.split_at(count);
+        (Self { requests, due, cases }, Self { requests: more, due: more_due, cases: more_cases })
+    }
+}
+
+/// The first so many lines, and the rest.
+fn lines(text: &[u8], count: usize) -> (&[u8], &[u8]) {
+    let end: usize = text.split_inclusive(|b| *b == b'\n').take(count).map(<[u8]>::len).sum();
+    text.split_at(end)
 }
 
 /// A line for the reader, cut where it is long.

@@ -24,3 +24,4 @@ pub mod random;
 pub mod request;
 pub mod tables;
 pub mod tree;
+pub mod tried;

@@ -5,10 +5,10 @@ use std::path::{Path, PathBuf};
 use std::process::ExitCode;
 use std::sync::Arc;
 
-use compare::driver::{self, Outcome, Plan, shown};
+use compare::driver::{self, Outcome, Plan, Replay, shown};
 use compare::listed::Listed;
 use compare::request::Function;
-use compare::{list, request, tables};
+use compare::{calls, list, request, tables};
 
 /// Random expressions in the long comparison.
 const LONG_ROUNDS: u64 = 11_000_000;
@@ -39,9 +39,13 @@ fn root() -> PathBuf {
     Path::new(env!("CARGO_MANIFEST_DIR")).join("..")
 }
 
-/// The program under comparison: `REPLAY`, else where `rt check replay` links it.
-fn replay() -> PathBuf {
-    env::var_os("REPLAY").map_or_else(|| root().join("target/bin/replay"), PathBuf::from)
+/// The program under comparison: `REPLAY`, else where `rt check replay` links it; without the library it is tried.
+fn replay() -> Replay {
+    if calls::LINKED {
+        Replay::Linked(env::var_os("REPLAY").map_or_else(|| root().join("target/bin/replay"), PathBuf::from))
+    } else {
+        Replay::Tried(root())
+    }
 }
 
 /// A variable's number, else the default.
@@ -59,8 +63,15 @@ fn run(long: bool) -> Result<bool, String> {
     let rounds = number("ROUNDS", if long { LONG_ROUNDS } else { 0 })?;
     let plan =
         Plan { replay: &replay, long, seed: number("SEED", 1)?, stop, rounds, listed: Arc::new(listed) };
-    println!("replay {}, seed {}", replay.display(), plan.seed);
-    let asked = tables::compare(&root().join("target/bin/tables"))?;
+    match &replay {
+        Replay::Linked(path) => println!("replay {}, seed {}", path.display(), plan.seed),
+        Replay::Tried(_) => println!("replay compiled by rt try, without a proof, seed {}", plan.seed),
+    }
+    let asked = if calls::LINKED {
+        tables::compare(&root().join("target/bin/tables"))?
+    } else {
+        tables::compare_tried(&root())?
+    };
     println!("white space and status words: {asked} questions, no difference");
     let known = driver::known(&replay)?;
     let mut outcome = driver::run(&plan, &known);
@@ -92,6 +103,9 @@ fn report(outcome: &Outcome, known: &[Function]) {
         );
     }
     println!("demand 3 on both sides: {} trees", outcome.trees);
+    if !calls::LINKED {
+        println!("a part of the cases: where rt check replay has linked the program, all are asked");
+    }
     let missing: Vec<&str> = Function::ALL.iter().filter(|f| !known.contains(f)).map(|f| f.word()).collect();
     if !missing.is_empty() {
         println!("left out, as replay does not know them: {}", missing.join(" "));
@@ -102,12 +116,12 @@ fn report(outcome: &Outcome, known: &[Function]) {
     println!("compare: {} cases, {} differences{listed}{failed}", total.cases, total.differences);
 }
 
-/// Writes the list for the named functions, else for those that replay knows.
+/// Writes the list for the named functions, else for all.
 fn make_list(words: &[&str]) -> Result<bool, String> {
     let named = |word: &&str| Function::of(word.as_bytes()).ok_or(format!("no function {word}"));
     let mut known: Vec<Function> = words.iter().map(named).collect::<Result<_, _>>()?;
     if known.is_empty() {
-        known = driver::known(&replay())?;
+        known = Function::ALL.to_vec();
     }
     let (replay, compare) = (root().join("crates/replay"), root().join("compare"));
     match env::var_os("INTO").map(PathBuf::from) {

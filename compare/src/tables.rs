@@ -5,6 +5,7 @@ use std::path::Path;
 use std::process::Command;
 
 use crate::original::conditions::{Expr, Status};
+use crate::tried::{Folder, Written};
 
 /// The words that are asked: those of document 01, and their like.
 const WORDS: [&str; 16] = [
@@ -50,4 +51,21 @@ pub fn compare(path: &Path) -> Result<usize, String> {
         }
     }
     Ok(asked)
+}
+
+/// The same of the program that `rt try` compiles from the repository at `root`.
+pub fn compare_tried(root: &Path) -> Result<usize, String> {
+    let (due, asked) = due();
+    let due: String = due.iter().map(|line| format!("{line}\n")).collect();
+    match Folder::new(root, "tables", 0)?.run(b"", due.as_bytes())? {
+        Written::AsDue => Ok(asked),
+        Written::Late => Err("tables takes too long".to_owned()),
+        Written::Else { at, said } => {
+            let line = due[..at].lines().count();
+            Err(format!(
+                "tables, about line {line}: the original has {:?}, the program goes on {said:?}",
+                due.lines().nth(line)
+            ))
+        }
+    }
 }

@@ -128,8 +128,29 @@ fn choosing() {
     assert_eq!(said("neutral", presence(&tree, &[3])), Ok(Truth::Neutral));
 }
 
+/// The largest results just fit the buffers that the crate names.
+fn largest() {
+    let mut text = "(".repeat(CITATION_LIMIT - 2);
+    for i in 0..CITATION_LIMIT {
+        let sign = ["∧", "∨"][i % 2];
+        text.push_str(if i > 0 { sign } else { "" });
+        text.push_str("[12345678]");
+        text.push_str(if i > 0 && i + 1 < CITATION_LIMIT { ")" } else { "" });
+    }
+    assert_eq!(expression("largest tree", text.as_bytes(), TREE_SIZE).0, Ok((None, Some(TREE_SIZE))));
+    assert_eq!(
+        expression("largest tree, one short", text.as_bytes(), TREE_SIZE - 1).0,
+        Err(Refusal::NoRoom)
+    );
+
+    let (_, tree) = expression("256 times [902]", &b"[902]".repeat(CITATION_LIMIT), TREE_SIZE);
+    assert_eq!(listed("all violated", &tree, b"", VIOLATIONS_SIZE), Ok(CITATION_LIMIT));
+    assert_eq!(listed("all violated, one short", &tree, b"", VIOLATIONS_SIZE - 1), Err(Refusal::NoRoom));
+}
+
 fn main() {
     reading();
     judging();
     choosing();
+    largest();
 }

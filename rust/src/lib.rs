@@ -15,8 +15,6 @@ pub const CITATION_LIMIT: usize = 256;
 pub const CITED_LIMIT: usize = 2048;
 /// A buffer of this length holds every tree.
 pub const TREE_SIZE: usize = 6150;
-/// A buffer of this length holds every print.
-pub const PRINT_SIZE: usize = 4343;
 /// A list of this length holds the numbers of all violated citations, 2 bytes each, the low one first.
 pub const VIOLATIONS_SIZE: usize = 512;
 /// The answer byte of a citation whose evaluation failed; the others are the numbers of [`Truth`].

@@ -82,6 +82,7 @@ pub fn trees(cases: &mut Cases) {
     if !cases.knows_any(&TREE_FUNCTIONS) {
         return;
     }
+    one_node(cases);
     small_presence(cases);
     small_verdicts(cases);
     wrong_answers(cases);
@@ -134,6 +135,15 @@ fn digits(mut number: usize, base: usize, leaves: usize) -> Vec<usize> {
         number /= base;
     }
     all
+}
+
+/// One node over four citations that gate, with every answer.
+fn one_node(cases: &mut Cases) {
+    let citations: Vec<Expr> = (1..=4).map(|number| Expr::Cond(number.to_string())).collect();
+    for kind in 1..=4 {
+        let expr = node(kind, citations.clone()).expect("a node of the kind");
+        every_answer(cases, &encode(&expr), citations.len(), 1);
+    }
 }
 
 /// Small trees over citations that gate, Hinweise and neither, with every answer.
