@@ -14,7 +14,7 @@ use Rattle.citation.specs.Truths.{truthNumber}
 use Rattle.grammar.specs.Outcome.{Outcome, answerOf, writtenOf, StatusSaid, parseAnswer, statusAnswer, answer-fits, written-fits}
 use Rattle.semantics.specs.Answers.{truthAnswer, violationsAnswer}
 use Rattle.ahb.specs.Numbers.{acceptedFrom, answerNumber, expression, status, expressionNumber, statusNumber, saidNumber, readNumber, verdictNumber}
-use Rattle.ahb.specs.Answers.{saidBy, truthSaid, readAnswer, verdictsAnswer}
+use Rattle.ahb.specs.Answers.{saidBy, truthWritten, readAnswer, verdictsAnswer}
 
 module _ {A B : Type 0} (f : A → B) where
   -- what is said otherwise has the number of what it says
@@ -35,15 +35,15 @@ module _ {A B : Type 0} (f : A → B) where
   said-written (refused k) old = refl
 
 -- a truth needs no room
-truth-number : (r : Result Truth) (n : ℕ) → verdictNumber (answerOf (map-ok truthSaid r) n) ≡ answerNumber acceptedFrom truthNumber r
+truth-number : (r : Result Truth) (n : ℕ) → verdictNumber (answerOf (map-ok truthWritten r) n) ≡ answerNumber acceptedFrom truthNumber r
 unfolding answerOf map-ok then
-truth-number (ok v) n = ap (λ x. verdictNumber x) (answer-fits (truthSaid v) n (omega arith))
+truth-number (ok v) n = ap (λ x. verdictNumber x) (answer-fits (truthWritten v) n (omega arith))
 truth-number (refused k) n = refl
 
 -- and writes nothing
-truth-written : (r : Result Truth) (old : List ℕ) → writtenOf (map-ok truthSaid r) old ≡ old
+truth-written : (r : Result Truth) (old : List ℕ) → writtenOf (map-ok truthWritten r) old ≡ old
 unfolding writtenOf map-ok
-truth-written (ok v) old = written-fits (truthSaid v) old (omega arith)
+truth-written (ok v) old = written-fits (truthWritten v) old (omega arith)
 truth-written (refused k) old = refl
 
 module _ (mode : ℕ) (s old new : List ℕ) (r : ℕ) where

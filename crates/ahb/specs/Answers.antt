@@ -15,8 +15,8 @@ abbrev pub saidBy : {A B : Type 0} → (A → B) → Written A → Written B
 saidBy f w = record { answer = f (w .answer); bytes = w .bytes }
 
 -- a truth by its number, and no bytes
-abbrev pub truthSaid : Truth → Written ℕ
-truthSaid v = record { answer = truthNumber v; bytes = [] }
+abbrev pub truthWritten : Truth → Written ℕ
+truthWritten v = record { answer = truthNumber v; bytes = [] }
 
 -- reading: an expression by mode 0, a status by any other
 unfoldable pub readAnswer : (mode : ℕ) (text : List ℕ) → Outcome ReadSaid
@@ -24,4 +24,4 @@ readAnswer mode text = cond (eqb mode 0) (map-ok (saidBy expression) (parseAnswe
 
 -- verdicts: the truth by mode 0, the violations by any other
 unfoldable pub verdictsAnswer : (mode : ℕ) (tree value : List ℕ) → Outcome ℕ
-verdictsAnswer mode tree value = cond (eqb mode 0) (map-ok truthSaid (truthAnswer tree value)) (violationsAnswer tree value)
+verdictsAnswer mode tree value = cond (eqb mode 0) (map-ok truthWritten (truthAnswer tree value)) (violationsAnswer tree value)

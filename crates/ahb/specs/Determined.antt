@@ -20,7 +20,7 @@ use Rattle.semantics.specs.Sentences.{answered-truth}
 use Rattle.semantics.specs.Truth.{truth}
 use Rattle.semantics.specs.Answers.{evalAnswer, truthAnswer, violationsAnswer}
 use Rattle.ahb.specs.Numbers.{acceptedFrom, presentFrom, answerNumber, ReadSaid, expression, status, saidNumber, readNumber, presenceNumber, verdictNumber}
-use Rattle.ahb.specs.Answers.{saidBy, truthSaid, readAnswer, verdictsAnswer}
+use Rattle.ahb.specs.Answers.{saidBy, truthWritten, readAnswer, verdictsAnswer}
 use Rattle.ahb.specs.Known.{Among, Known, lastRefusal, named-most, among-known, admitted-among, map-among, map-known, then-known, tree-of-known, eval-known}
 use Rattle.ahb.specs.Sizes.{Short, ShortStatus, CountFew, answer-among, parse-outcome, status-outcome, violations-outcome}
 
@@ -102,7 +102,7 @@ truth-known tree value = then-known (treeOf tree) _ (tree-of-known tree) λ e. a
 verdicts-known : (mode : ℕ) (tree value : List ℕ) → Known (verdictsAnswer mode tree value)
 unfolding verdictsAnswer
 verdicts-known mode tree value =
-    cond-both Known (eqb mode 0) _ _ (λ _. map-known truthSaid (truthAnswer tree value) (truth-known tree value)) λ _. among-known CountFew (violationsAnswer tree value) (violations-outcome tree value)
+    cond-both Known (eqb mode 0) _ _ (λ _. map-known truthWritten (truthAnswer tree value) (truth-known tree value)) λ _. among-known CountFew (violationsAnswer tree value) (violations-outcome tree value)
 
 -- what `ahb_verdicts` answers tells the number of the truth, or the count, as the mode asks
 pub verdicts-determined : (mode mode′ : ℕ) (tree tree′ value value′ : List ℕ) (n n′ : ℕ)

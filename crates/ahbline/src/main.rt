@@ -5,6 +5,7 @@
 ghost use mathlib.Core.Path.{_≡_};
 ghost use Prim.Native.Nat.{_≤_, _<_};
 ghost use lib.ListN.{length};
+ghost use Rattle.line.specs.Sizes.{longestReport};
 ghost use Rattle.line.specs.Input.{Buffers, Sized};
 use libc::STDIN_FILENO;
 use libc::STDOUT_FILENO;
@@ -76,14 +77,14 @@ fn read_all(input: &mut [u8], status: &mut [u8], answers: &mut [u8], value: &mut
 
 // The lines for what was read.
 fn write_report(held: Held, status: &[u8], answers: &[u8], value: &[u8], out: &mut [u8])
-    requires { ⌜ Buffers held (now status) (now answers) (now value) × (6708 ≤ length (now out)) ⌝ }
+    requires { ⌜ Buffers held (now status) (now answers) (now value) × (longestReport ≤ length (now out)) ⌝ }
 {
     let n = report_held(held, status, answers, value, out);
     io::write_all(STDOUT_FILENO, text::head(out, n));
 }
 
 fn answer(input: &mut [u8], status: &mut [u8], answers: &mut [u8], value: &mut [u8], out: &mut [u8])
-    requires { ⌜ Sized (now status) (now answers) (now value) × (6708 ≤ length (now out)) ⌝ }
+    requires { ⌜ Sized (now status) (now answers) (now value) × (longestReport ≤ length (now out)) ⌝ }
 {
     let held = read_all(input, status, answers, value);
     write_report(held, status, answers, value, out);

@@ -7,6 +7,7 @@
 ghost use mathlib.Core.Path.{_≡_};
 ghost use Prim.Native.Nat.{_≤_, _<_};
 ghost use lib.ListN.{length};
+ghost use Rattle.line.specs.Sizes.{longestReport};
 ghost use Rattle.line.specs.Input.{Buffers, Sized};
 use libc::STDIN_FILENO;
 use libc::STDOUT_FILENO;
@@ -26,7 +27,7 @@ struct Turn {
 
 // Writes the report of a run, and begins the next.
 fn end_run(held: Held, status: &[u8], answers: &[u8], value: &[u8], out: &mut [u8]) -> Held
-    requires { ⌜ Buffers held (now status) (now answers) (now value) × (6708 ≤ length (now out)) ⌝ }
+    requires { ⌜ Buffers held (now status) (now answers) (now value) × (longestReport ≤ length (now out)) ⌝ }
     ensures { λ r. ⌜ Buffers r (now (status .entry)) (now (answers .entry)) (now (value .entry)) ⌝ }
 {
     let n = report_held(held, status, answers, value, out);
@@ -43,7 +44,7 @@ fn take_byte(
     value: &mut [u8],
     out: &mut [u8],
 ) -> Held
-    requires { ⌜ Buffers held (now status) (now answers) (now value) × (6708 ≤ length (now out)) ⌝ }
+    requires { ⌜ Buffers held (now status) (now answers) (now value) × (longestReport ≤ length (now out)) ⌝ }
     ensures { λ r. ⌜ Buffers r (now (status .exit)) (now (answers .exit)) (now (value .exit)) ⌝ }
 {
     if b == 0 {
@@ -60,7 +61,7 @@ fn take_input(
     value: &mut [u8],
     out: &mut [u8],
 ) -> Held
-    requires { ⌜ Buffers held (now status) (now answers) (now value) × (6708 ≤ length (now out)) ⌝ }
+    requires { ⌜ Buffers held (now status) (now answers) (now value) × (longestReport ≤ length (now out)) ⌝ }
     ensures { λ r. ⌜ Buffers r (now (status .exit)) (now (answers .exit)) (now (value .exit)) ⌝ }
 {
     let mut state = held;
@@ -81,7 +82,7 @@ fn read_some(
     value: &mut [u8],
     out: &mut [u8],
 ) -> Turn
-    requires { ⌜ Buffers held (now status) (now answers) (now value) × (6708 ≤ length (now out)) ⌝ }
+    requires { ⌜ Buffers held (now status) (now answers) (now value) × (longestReport ≤ length (now out)) ⌝ }
     ensures { λ r. ⌜ Buffers (r .held) (now (status .exit)) (now (answers .exit)) (now (value .exit)) ⌝ }
 {
     let got = libc::read(STDIN_FILENO, input);
@@ -109,7 +110,7 @@ fn answer_all(
     value: &mut [u8],
     out: &mut [u8],
 )
-    requires { ⌜ Sized (now status) (now answers) (now value) × (6708 ≤ length (now out)) ⌝ }
+    requires { ⌜ Sized (now status) (now answers) (now value) × (longestReport ≤ length (now out)) ⌝ }
 {
     let mut held = Held::new();
     let mut turns = u64::MAX;

@@ -1,4 +1,4 @@
--- What decides of the three lines: 4,401 bytes of the status, 257 letters, 1,025 bytes of the value. Assumes nothing.
+-- What decides of the three lines. Assumes nothing.
 use mathlib.Core.Path.{_≡_, refl, sym, ap, _∙_}
 use mathlib.Core.List.{List}
 use mathlib.Core.Bool.{Bool, true, false}
@@ -17,13 +17,14 @@ use Rattle.utf8.proofs.Limits.{too-long}
 use Rattle.citation.specs.declared.Truth.{Truth}
 use Rattle.status.specs.declared.StatusKind.{StatusKind}
 use Rattle.grammar.specs.Expr.{Expr, count}
-use Rattle.grammar.specs.Reading.{Fits}
+use Rattle.grammar.specs.Reading.{citationLimit, Fits}
 use Rattle.grammar.specs.Status.{Stated, alone, stated, words, ofWords, statusReading}
 use Rattle.grammar.specs.Bytes.{bytesOf}
 use Rattle.grammar.specs.Theorems.{afterStatus, read-fits, tree-of-bytes}
 use Rattle.semantics.specs.Truth.{truth}
 use Rattle.semantics.specs.Presence.{answersFit}
 use Rattle.semantics.specs.Answers.{presenceBy, evalAndTruthAnswer}
+use Rattle.line.specs.Sizes.{keptStatus, keptAnswers, keptValue}
 use Rattle.line.specs.Lines.{answerBytes, treeLines, judgedLines, statedLines, shown, lines}
 use Rattle.line.proofs.Texts.{answers-length}
 
@@ -37,7 +38,7 @@ cut-admitted {A} most t f = by (leb (length t) most) refl
         let long : length (take (suc most) t) ≡ suc most = length-take-le (suc most) t (omega (arith, leb-false (length t) most h)) in
         too-long most (take (suc most) t) (f (take (suc most) t)) (lt-leb (length (take (suc most) t)) most (omega (arith, long))) ∙ sym (too-long most t (f t) h)
 
-cut-status : (s : List ℕ) → statusReading (take 4401 s) ≡ statusReading s
+cut-status : (s : List ℕ) → statusReading (take keptStatus s) ≡ statusReading s
 unfolding statusReading
 cut-status s = cut-admitted textLimit s (λ x. ofWords (words (decode x)))
 
@@ -50,7 +51,7 @@ map-admitted : {A B : Type 0} (f : A → B) (most : ℕ) (t : List ℕ) (r : Res
 unfolding admitted
 map-admitted f most t r = map-unless f (leb (length t) most) _ _ ∙ ap (unless (leb (length t) most) _) (map-unless f (isUtf8 t) _ r)
 
-unfit : (e : Expr) (c : List ℕ) → Fits e → 256 < length c → answersFit e c ≡ false
+unfit : (e : Expr) (c : List ℕ) → Fits e → citationLimit < length c → answersFit e c ≡ false
 unfolding answersFit
 unfit e c f h = rw (ne-eqb (length c) (count e) (λ q. omega (arith, q, h, f .few)))
 
@@ -66,31 +67,31 @@ module _ (k : StatusKind) (e : Expr) (fit : Fits e) where
       let r : Result (Truth × Truth) = map-ok (λ p. (p, truth v e)) (presenceBy c e) in
       rw (tree-of-bytes e fit) (map-unless f (answersFit e c) WrongAnswers (admitted valueLimit v r) ∙ ap (unless (answersFit e c) WrongAnswers) (map-admitted f valueLimit v r))
 
-  cut-value : (c v : List ℕ) → judgedLines k (bytesOf e) e c (take 1025 v) ≡ judgedLines k (bytesOf e) e c v
-  cut-value c v = judged-is c (take 1025 v) ∙ ap (unless (answersFit e c) WrongAnswers) (cut-admitted valueLimit v (said c)) ∙ sym (judged-is c v)
+  cut-value : (c v : List ℕ) → judgedLines k (bytesOf e) e c (take keptValue v) ≡ judgedLines k (bytesOf e) e c v
+  cut-value c v = judged-is c (take keptValue v) ∙ ap (unless (answersFit e c) WrongAnswers) (cut-admitted valueLimit v (said c)) ∙ sym (judged-is c v)
 
-  cut-answers : (a v : List ℕ) → judgedLines k (bytesOf e) e (answerBytes (take 257 a)) v ≡ judgedLines k (bytesOf e) e (answerBytes a) v
-  cut-answers a v = by (leb (length a) 256) refl
+  cut-answers : (a v : List ℕ) → judgedLines k (bytesOf e) e (answerBytes (take keptAnswers a)) v ≡ judgedLines k (bytesOf e) e (answerBytes a) v
+  cut-answers a v = by (leb (length a) citationLimit) refl
     where
-      by : (b : Bool) → leb (length a) 256 ≡ b → judgedLines k (bytesOf e) e (answerBytes (take 257 a)) v ≡ judgedLines k (bytesOf e) e (answerBytes a) v
-      by true h = ap (λ x. judgedLines k (bytesOf e) e (answerBytes x) v) (take-all 257 a (omega (arith, leb-true (length a) 256 h)))
+      by : (b : Bool) → leb (length a) citationLimit ≡ b → judgedLines k (bytesOf e) e (answerBytes (take keptAnswers a)) v ≡ judgedLines k (bytesOf e) e (answerBytes a) v
+      by true h = ap (λ x. judgedLines k (bytesOf e) e (answerBytes x) v) (take-all keptAnswers a (omega (arith, leb-true (length a) citationLimit h)))
       by false h =
-          let more = leb-false (length a) 256 h in
-          let long = length-take-le 257 a (omega (arith, more)) in
-          let cut = unfit e (answerBytes (take 257 a)) fit (omega (arith, answers-length (take 257 a), long)) in
+          let more = leb-false (length a) citationLimit h in
+          let long = length-take-le keptAnswers a (omega (arith, more)) in
+          let cut = unfit e (answerBytes (take keptAnswers a)) fit (omega (arith, answers-length (take keptAnswers a), long)) in
           let all = unfit e (answerBytes a) fit (omega (arith, answers-length a, more)) in
-          judged-is (answerBytes (take 257 a)) v ∙ ap (λ x. unless x WrongAnswers (admitted valueLimit v (said (answerBytes (take 257 a)) v))) cut
+          judged-is (answerBytes (take keptAnswers a)) v ∙ ap (λ x. unless x WrongAnswers (admitted valueLimit v (said (answerBytes (take keptAnswers a)) v))) cut
           ∙ sym (judged-is (answerBytes a) v ∙ ap (λ x. unless x WrongAnswers (admitted valueLimit v (said (answerBytes a) v))) all)
 
-cut-stated : (s a v : List ℕ) (x : Result Stated) → statusReading s ≡ x → then x (λ t. statedLines t (take 257 a) (take 1025 v)) ≡ then x (λ t. statedLines t a v)
+cut-stated : (s a v : List ℕ) (x : Result Stated) → statusReading s ≡ x → then x (λ t. statedLines t (take keptAnswers a) (take keptValue v)) ≡ then x (λ t. statedLines t a v)
 unfolding then statedLines
 cut-stated s a v (refused j) q = refl
 cut-stated s a v (ok (alone k)) q = refl
 cut-stated s a v (ok (stated k e)) q =
     let fit = read-fits e (afterStatus s k e q) in
-    cut-value k e fit (answerBytes (take 257 a)) v ∙ cut-answers k e fit a v
+    cut-value k e fit (answerBytes (take keptAnswers a)) v ∙ cut-answers k e fit a v
 
 -- cutting the lines to what decides changes nothing
-pub cut-lines : (s a v : List ℕ) → lines (take 4401 s) (take 257 a) (take 1025 v) ≡ lines s a v
+pub cut-lines : (s a v : List ℕ) → lines (take keptStatus s) (take keptAnswers a) (take keptValue v) ≡ lines s a v
 unfolding lines
-cut-lines s a v = ap shown (ap (λ x. then x (λ t. statedLines t (take 257 a) (take 1025 v))) (cut-status s) ∙ cut-stated s a v (statusReading s) refl)
+cut-lines s a v = ap shown (ap (λ x. then x (λ t. statedLines t (take keptAnswers a) (take keptValue v))) (cut-status s) ∙ cut-stated s a v (statusReading s) refl)

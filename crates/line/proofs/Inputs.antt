@@ -9,6 +9,7 @@ use lib.Dec.{eqb, ltb}
 use lib.ListN.{length, getD, take, drop, set, length-append, drop-of-length-le}
 use lib.Seq.{take-suc-set, take-nil, length-take-le, drop-cons}
 use borrow.Author.Tests.{lt-ltb, le-ltb, eq-eqb, ne-eqb, ltb-true, ltb-false}
+use Rattle.line.specs.Sizes.{keptStatus, keptAnswers, keptValue}
 use Rattle.line.specs.Lines.{lineFeed, lines}
 use Rattle.line.specs.declared.Held.{Held}
 use Rattle.line.specs.Input.{firstLine, afterLine, lineAt, inputLines, Kept, noInput, longer, nextRow, withByte, fed, fedAll, keptIn, Buffers, noneHeld, Sized}
@@ -124,44 +125,44 @@ past (b ∷ i) s a v = by (eqb b lineFeed) refl (past i s a v)
     by true h k = keeps _ _ s a v s a v (fed-more b i (at 3 s a v) (at 3 s a v) (fed-feed b (at 3 s a v) h)) k refl refl refl
     by false h k = keeps _ _ s a v s a v (fed-more b i (at 3 s a v) (at 3 s a v) (fed-other b (at 3 s a v) h)) k refl refl refl
 
-third : (i s a v : List ℕ) → Keeps (fedAll i (at 2 s a v)) s a (filled 1025 v (lineAt 0 i))
-third [] s a v = keeps _ (at 2 s a v) s a _ s a v (fed-none (at 2 s a v)) (refl, (refl, refl)) refl refl (filled-none 1025 v _ (line-none 0))
-third (b ∷ i) s a v = by (eqb b lineFeed) refl (third i s a (longer 1025 b v))
+third : (i s a v : List ℕ) → Keeps (fedAll i (at 2 s a v)) s a (filled keptValue v (lineAt 0 i))
+third [] s a v = keeps _ (at 2 s a v) s a _ s a v (fed-none (at 2 s a v)) (refl, (refl, refl)) refl refl (filled-none keptValue v _ (line-none 0))
+third (b ∷ i) s a v = by (eqb b lineFeed) refl (third i s a (longer keptValue b v))
   where
-    by : (t : Bool) → eqb b lineFeed ≡ t → Keeps (fedAll i (at 2 s a (longer 1025 b v))) s a (filled 1025 (longer 1025 b v) (lineAt 0 i)) → Keeps (fedAll (b ∷ i) (at 2 s a v)) s a (filled 1025 v (lineAt 0 (b ∷ i)))
-    by true h k = keeps _ _ s a _ s a v (fed-more b i (at 2 s a v) (at 3 s a v) (fed-feed b (at 2 s a v) h)) (past i s a v) refl refl (filled-none 1025 v _ (feed-here b i h))
+    by : (t : Bool) → eqb b lineFeed ≡ t → Keeps (fedAll i (at 2 s a (longer keptValue b v))) s a (filled keptValue (longer keptValue b v) (lineAt 0 i)) → Keeps (fedAll (b ∷ i) (at 2 s a v)) s a (filled keptValue v (lineAt 0 (b ∷ i)))
+    by true h k = keeps _ _ s a _ s a v (fed-more b i (at 2 s a v) (at 3 s a v) (fed-feed b (at 2 s a v) h)) (past i s a v) refl refl (filled-none keptValue v _ (feed-here b i h))
     by false h k =
-        keeps _ _ s a _ s a _ (fed-more b i (at 2 s a v) (at 2 s a (longer 1025 b v)) (fed-other b (at 2 s a v) h)) k refl refl
-        (filled-next 1025 v b (lineAt 0 i) ∙ ap (filled 1025 v) (sym (byte-here b i h)))
+        keeps _ _ s a _ s a _ (fed-more b i (at 2 s a v) (at 2 s a (longer keptValue b v)) (fed-other b (at 2 s a v) h)) k refl refl
+        (filled-next keptValue v b (lineAt 0 i) ∙ ap (filled keptValue v) (sym (byte-here b i h)))
 
-second : (i s a v : List ℕ) → Keeps (fedAll i (at 1 s a v)) s (filled 257 a (lineAt 0 i)) (filled 1025 v (lineAt 1 i))
+second : (i s a v : List ℕ) → Keeps (fedAll i (at 1 s a v)) s (filled keptAnswers a (lineAt 0 i)) (filled keptValue v (lineAt 1 i))
 second [] s a v =
-    keeps _ (at 1 s a v) s _ _ s a v (fed-none (at 1 s a v)) (refl, (refl, refl)) refl (filled-none 257 a _ (line-none 0)) (filled-none 1025 v _ (line-none 1))
-second (b ∷ i) s a v = by (eqb b lineFeed) refl (second i s (longer 257 b a) v)
+    keeps _ (at 1 s a v) s _ _ s a v (fed-none (at 1 s a v)) (refl, (refl, refl)) refl (filled-none keptAnswers a _ (line-none 0)) (filled-none keptValue v _ (line-none 1))
+second (b ∷ i) s a v = by (eqb b lineFeed) refl (second i s (longer keptAnswers b a) v)
   where
-    by : (t : Bool) → eqb b lineFeed ≡ t → Keeps (fedAll i (at 1 s (longer 257 b a) v)) s (filled 257 (longer 257 b a) (lineAt 0 i)) (filled 1025 v (lineAt 1 i)) → Keeps (fedAll (b ∷ i) (at 1 s a v)) s (filled 257 a (lineAt 0 (b ∷ i))) (filled 1025 v (lineAt 1 (b ∷ i)))
+    by : (t : Bool) → eqb b lineFeed ≡ t → Keeps (fedAll i (at 1 s (longer keptAnswers b a) v)) s (filled keptAnswers (longer keptAnswers b a) (lineAt 0 i)) (filled keptValue v (lineAt 1 i)) → Keeps (fedAll (b ∷ i) (at 1 s a v)) s (filled keptAnswers a (lineAt 0 (b ∷ i))) (filled keptValue v (lineAt 1 (b ∷ i)))
     by true h k =
-        keeps _ _ s _ _ s a _ (fed-more b i (at 1 s a v) (at 2 s a v) (fed-feed b (at 1 s a v) h)) (third i s a v) refl (filled-none 257 a _ (feed-here b i h))
-        (ap (filled 1025 v) (sym (feed-later b i h 0)))
+        keeps _ _ s _ _ s a _ (fed-more b i (at 1 s a v) (at 2 s a v) (fed-feed b (at 1 s a v) h)) (third i s a v) refl (filled-none keptAnswers a _ (feed-here b i h))
+        (ap (filled keptValue v) (sym (feed-later b i h 0)))
     by false h k =
-        keeps _ _ s _ _ s _ _ (fed-more b i (at 1 s a v) (at 1 s (longer 257 b a) v) (fed-other b (at 1 s a v) h)) k refl
-        (filled-next 257 a b (lineAt 0 i) ∙ ap (filled 257 a) (sym (byte-here b i h))) (ap (filled 1025 v) (sym (byte-later b i h 0)))
+        keeps _ _ s _ _ s _ _ (fed-more b i (at 1 s a v) (at 1 s (longer keptAnswers b a) v) (fed-other b (at 1 s a v) h)) k refl
+        (filled-next keptAnswers a b (lineAt 0 i) ∙ ap (filled keptAnswers a) (sym (byte-here b i h))) (ap (filled keptValue v) (sym (byte-later b i h 0)))
 
-first : (i s a v : List ℕ) → Keeps (fedAll i (at 0 s a v)) (filled 4401 s (lineAt 0 i)) (filled 257 a (lineAt 1 i)) (filled 1025 v (lineAt 2 i))
+first : (i s a v : List ℕ) → Keeps (fedAll i (at 0 s a v)) (filled keptStatus s (lineAt 0 i)) (filled keptAnswers a (lineAt 1 i)) (filled keptValue v (lineAt 2 i))
 first [] s a v =
-    keeps _ (at 0 s a v) _ _ _ s a v (fed-none (at 0 s a v)) (refl, (refl, refl)) (filled-none 4401 s _ (line-none 0)) (filled-none 257 a _ (line-none 1)) (filled-none 1025 v _ (line-none 2))
-first (b ∷ i) s a v = by (eqb b lineFeed) refl (first i (longer 4401 b s) a v)
+    keeps _ (at 0 s a v) _ _ _ s a v (fed-none (at 0 s a v)) (refl, (refl, refl)) (filled-none keptStatus s _ (line-none 0)) (filled-none keptAnswers a _ (line-none 1)) (filled-none keptValue v _ (line-none 2))
+first (b ∷ i) s a v = by (eqb b lineFeed) refl (first i (longer keptStatus b s) a v)
   where
-    by : (t : Bool) → eqb b lineFeed ≡ t → Keeps (fedAll i (at 0 (longer 4401 b s) a v)) (filled 4401 (longer 4401 b s) (lineAt 0 i)) (filled 257 a (lineAt 1 i)) (filled 1025 v (lineAt 2 i)) → Keeps (fedAll (b ∷ i) (at 0 s a v)) (filled 4401 s (lineAt 0 (b ∷ i))) (filled 257 a (lineAt 1 (b ∷ i))) (filled 1025 v (lineAt 2 (b ∷ i)))
+    by : (t : Bool) → eqb b lineFeed ≡ t → Keeps (fedAll i (at 0 (longer keptStatus b s) a v)) (filled keptStatus (longer keptStatus b s) (lineAt 0 i)) (filled keptAnswers a (lineAt 1 i)) (filled keptValue v (lineAt 2 i)) → Keeps (fedAll (b ∷ i) (at 0 s a v)) (filled keptStatus s (lineAt 0 (b ∷ i))) (filled keptAnswers a (lineAt 1 (b ∷ i))) (filled keptValue v (lineAt 2 (b ∷ i)))
     by true h k =
-        keeps _ _ _ _ _ s _ _ (fed-more b i (at 0 s a v) (at 1 s a v) (fed-feed b (at 0 s a v) h)) (second i s a v) (filled-none 4401 s _ (feed-here b i h))
-        (ap (filled 257 a) (sym (feed-later b i h 0))) (ap (filled 1025 v) (sym (feed-later b i h 1)))
+        keeps _ _ _ _ _ s _ _ (fed-more b i (at 0 s a v) (at 1 s a v) (fed-feed b (at 0 s a v) h)) (second i s a v) (filled-none keptStatus s _ (feed-here b i h))
+        (ap (filled keptAnswers a) (sym (feed-later b i h 0))) (ap (filled keptValue v) (sym (feed-later b i h 1)))
     by false h k =
-        keeps _ _ _ _ _ _ _ _ (fed-more b i (at 0 s a v) (at 0 (longer 4401 b s) a v) (fed-other b (at 0 s a v) h)) k
-        (filled-next 4401 s b (lineAt 0 i) ∙ ap (filled 4401 s) (sym (byte-here b i h))) (ap (filled 257 a) (sym (byte-later b i h 0))) (ap (filled 1025 v) (sym (byte-later b i h 1)))
+        keeps _ _ _ _ _ _ _ _ (fed-more b i (at 0 s a v) (at 0 (longer keptStatus b s) a v) (fed-other b (at 0 s a v) h)) k
+        (filled-next keptStatus s b (lineAt 0 i) ∙ ap (filled keptStatus s) (sym (byte-here b i h))) (ap (filled keptAnswers a) (sym (byte-later b i h 0))) (ap (filled keptValue v) (sym (byte-later b i h 1)))
 
 -- what is kept of an input is its first three lines, as far as they decide
-pub kept-lines : (i : List ℕ) → Keeps (fedAll i noInput) (take 4401 (lineAt 0 i)) (take 257 (lineAt 1 i)) (take 1025 (lineAt 2 i))
+pub kept-lines : (i : List ℕ) → Keeps (fedAll i noInput) (take keptStatus (lineAt 0 i)) (take keptAnswers (lineAt 1 i)) (take keptValue (lineAt 2 i))
 kept-lines i = first i [] [] []
 
 -- and its report is that of the input
@@ -169,7 +170,7 @@ pub kept-report : (i : List ℕ) → lines (fedAll i noInput .status) (fedAll i 
 kept-report i =
     let k = kept-lines i in
     let h = fedAll i noInput in
-    ap (λ x. lines x (h .answers) (h .value)) (k .0) ∙ ap (λ x. lines (take 4401 (lineAt 0 i)) x (h .value)) (k .1 .0) ∙ ap (lines (take 4401 (lineAt 0 i)) (take 257 (lineAt 1 i))) (k .1 .1)
+    ap (λ x. lines x (h .answers) (h .value)) (k .0) ∙ ap (λ x. lines (take keptStatus (lineAt 0 i)) x (h .value)) (k .1 .0) ∙ ap (lines (take keptStatus (lineAt 0 i)) (take keptAnswers (lineAt 1 i))) (k .1 .1)
     ∙ cut-lines (lineAt 0 i) (lineAt 1 i) (lineAt 2 i)
 
 -- the next line
@@ -199,7 +200,7 @@ module _ (h : Held) (s a v : List ℕ) (b : ℕ) (k : Buffers h s a v) where
       ap (λ x. at (h .row) x (take (h .answers) a) (take (h .value) v)) (e ∙ ap (λ (x : ℕ). longer x b (take (h .status) s)) (k .statusSize)) ∙ row-here ∙ fed-byte b (keptIn h s a v) other,
     )
       where
-        row-here : at (h .row) (longer 4401 b (take (h .status) s)) (take (h .answers) a) (take (h .value) v) ≡ withByte b (keptIn h s a v)
+        row-here : at (h .row) (longer keptStatus b (take (h .status) s)) (take (h .answers) a) (take (h .value) v) ≡ withByte b (keptIn h s a v)
         row-here = rw (eq-eqb (h .row) 0 z)
 
     -- a letter
@@ -211,7 +212,7 @@ module _ (h : Held) (s a v : List ℕ) (b : ℕ) (k : Buffers h s a v) where
       ap (λ x. at (h .row) (take (h .status) s) x (take (h .value) v)) (e ∙ ap (λ (x : ℕ). longer x b (take (h .answers) a)) (k .answersSize)) ∙ row-here ∙ fed-byte b (keptIn h s a v) other,
     )
       where
-        row-here : at (h .row) (take (h .status) s) (longer 257 b (take (h .answers) a)) (take (h .value) v) ≡ withByte b (keptIn h s a v)
+        row-here : at (h .row) (take (h .status) s) (longer keptAnswers b (take (h .answers) a)) (take (h .value) v) ≡ withByte b (keptIn h s a v)
         row-here = rw (ne-eqb (h .row) 0 (λ q. omega (arith, q, z)), eq-eqb (h .row) 1 z)
 
     -- a byte of the value
@@ -223,7 +224,7 @@ module _ (h : Held) (s a v : List ℕ) (b : ℕ) (k : Buffers h s a v) where
       ap (λ x. at (h .row) (take (h .status) s) (take (h .answers) a) x) (e ∙ ap (λ (x : ℕ). longer x b (take (h .value) v)) (k .valueSize)) ∙ row-here ∙ fed-byte b (keptIn h s a v) other,
     )
       where
-        row-here : at (h .row) (take (h .status) s) (take (h .answers) a) (longer 1025 b (take (h .value) v)) ≡ withByte b (keptIn h s a v)
+        row-here : at (h .row) (take (h .status) s) (take (h .answers) a) (longer keptValue b (take (h .value) v)) ≡ withByte b (keptIn h s a v)
         row-here = rw (ne-eqb (h .row) 0 (λ q. omega (arith, q, z)), ne-eqb (h .row) 1 (λ q. omega (arith, q, z)), eq-eqb (h .row) 2 z)
 
     -- a byte after the third line

@@ -10,7 +10,7 @@ use lib.Seq.{drop-drop, drop-append-seam, getD-drop}
 use Rattle.grammar.specs.Expr.{Expr, Exprs, cite, Then, join, none, more, citations, citationsOf, count, concat}
 use Rattle.grammar.specs.Bounds.{concat-append}
 use Rattle.grammar.specs.Lex.{blankChar}
-use Rattle.grammar.specs.Reading.{Fits}
+use Rattle.grammar.specs.Reading.{citationLimit, Fits}
 use Rattle.grammar.specs.Bytes.{twoBytes, field, cites, textsIn}
 use Rattle.grammar.specs.Pack.{got}
 use Rattle.semantics.specs.Rules.{isFalse}
@@ -20,6 +20,7 @@ use Rattle.semantics.specs.Sizes.{violated-few}
 use Rattle.fields.specs.Appended.{Appended}
 use Rattle.fields.proofs.Appends.{nothing, both, same}
 use Rattle.tree.specs.Walk.{textAt}
+use Rattle.line.specs.Sizes.{longestNamed}
 use Rattle.line.specs.Lines.{named}
 use Rattle.line.specs.Parts.{numbersFrom, AllBelow}
 
@@ -99,9 +100,9 @@ module _ (value : List ℕ) where
 
   -- what holds of the numbers of violated citations
   pub record Listed (e : Expr) (ns : List ℕ) : Type 0 where
-    pub few : length ns ≤ 256
+    pub few : length ns ≤ citationLimit
     pub below : AllBelow (count e) ns
-    pub small : length (named (citations e) ns) ≤ 2304
+    pub small : length (named (citations e) ns) ≤ longestNamed
 
   some-listed : (e : Expr) → Fits e → Listed e (violated value 0 e)
   some-listed e f = record {

@@ -16,7 +16,7 @@ use Rattle.citation.specs.declared.Truth.{Truth}
 use Rattle.status.specs.declared.StatusKind.{StatusKind}
 use Rattle.grammar.specs.Expr.{Expr, citations, count, concat}
 use Rattle.grammar.specs.Print.{printed}
-use Rattle.grammar.specs.Reading.{Fits}
+use Rattle.grammar.specs.Reading.{citationLimit, Fits}
 use Rattle.grammar.specs.Status.{Stated, alone, stated, statusReading}
 use Rattle.grammar.specs.Bytes.{cites, textsIn, isTree, treeAt, treeOf, bytesOf}
 use Rattle.grammar.specs.Theorems.{afterStatus, read-fits, print-short, few-bytes, is-tree, tree-of-bytes}
@@ -24,7 +24,7 @@ use Rattle.grammar.specs.Outcome.{Written, Outcome, answerOf, writtenOf, withLe
 use Rattle.semantics.specs.Presence.{answersFit}
 use Rattle.semantics.specs.Truth.{truth}
 use Rattle.semantics.specs.Violations.{violations, numberBytes}
-use Rattle.semantics.specs.Packages.{pakete, rowsOf}
+use Rattle.semantics.specs.Packages.{paketSize, pakete, rowsOf}
 use Rattle.semantics.specs.Sizes.{numbers-length, rows-length}
 use Rattle.semantics.specs.Answers.{presenceBy, numbered, rowed, paketeAnswer, violationsAnswer, evalAndTruthAnswer}
 use Rattle.fields.specs.Appended.{Appended}
@@ -46,6 +46,7 @@ use Rattle.verdicts.specs.declared.BothAnswer.the-variants as both
 use Rattle.reader.specs.Said.{statusSaid}
 use Rattle.reader.specs.declared.StatusAnswer.{StatusAnswer}
 use Rattle.reader.specs.declared.StatusAnswer.the-variants as status
+use Rattle.line.specs.Sizes.{longestTree, longestPrint, longestRows, longestList, longestNamed}
 use Rattle.line.specs.Lines.{answerBytes, figures, named, line, aloneLines, treeLines, judgedLines, statedLines, shown, lines, reportAnswer}
 use Rattle.line.specs.Parts.{numbersFrom, AllBelow, Admitted}
 use Rattle.line.proofs.Texts.{answers-length, inside}
@@ -79,22 +80,22 @@ module _ (b : List ℕ) (tree : isTree b ≡ true) where
   unfolding paketeAnswer map-ok
   pakete-is = rw (root b tree .is)
 
-  pakete-size : (length (concat (pakete e)) ≡ 19 * length (pakete e)) × (length (pakete e) ≤ 256)
+  pakete-size : (length (concat (pakete e)) ≡ paketSize * length (pakete e)) × (length (pakete e) ≤ citationLimit)
   unfolding pakete
   pakete-size = let r = rows-length 0 (citations e) in (r .0, omega (arith, r .1, root b tree .fits .few))
 
   module _ (old new : List ℕ) where
     -- the print
-    pub printed-into : (o : Displayed) → 4343 ≤ length old → displaySaid o ≡ answerOf (displayAnswer b) (length old) → new ≡ writtenOf (displayAnswer b) old
-        → (displaySaid o ≡ ok (length (printed e))) × ((n : ℕ) → n ≡ length (printed e) → (n ≤ 4343) × (take n new ≡ printed e))
+    pub printed-into : (o : Displayed) → longestPrint ≤ length old → displaySaid o ≡ answerOf (displayAnswer b) (length old) → new ≡ writtenOf (displayAnswer b) old
+        → (displaySaid o ≡ ok (length (printed e))) × ((n : ℕ) → n ≡ length (printed e) → (n ≤ longestPrint) × (take n new ≡ printed e))
     printed-into o room f g =
         let short = print-short e (root b tree .fits) in
         let s = settled (displayAnswer b) (withLength (printed e)) old new (displaySaid o) display-is (omega (arith, short)) f g in
         (s .0, λ n h. (omega (arith, h, short), front new (printed e) (drop (length (printed e)) old) n (s .1) h))
 
     -- the number of package rows
-    pub rows-counted : (o : PaketeAnswer) → 4864 ≤ length old → paketeSaid o ≡ answerOf (paketeAnswer b) (length old) → new ≡ writtenOf (paketeAnswer b) old
-        → (paketeSaid o ≡ ok (length (pakete e))) × ((n : ℕ) → n ≡ length (pakete e) → (n ≤ 256) × (n ≡ length (pakete e)))
+    pub rows-counted : (o : PaketeAnswer) → longestRows ≤ length old → paketeSaid o ≡ answerOf (paketeAnswer b) (length old) → new ≡ writtenOf (paketeAnswer b) old
+        → (paketeSaid o ≡ ok (length (pakete e))) × ((n : ℕ) → n ≡ length (pakete e) → (n ≤ citationLimit) × (n ≡ length (pakete e)))
     rows-counted o room f g =
         let s = settled (paketeAnswer b) (rowed (pakete e)) old new (paketeSaid o) pakete-is (omega (arith, pakete-size .0, pakete-size .1)) f g in
         (s .0, λ n h. (omega (arith, h, pakete-size .1), h))
@@ -105,8 +106,8 @@ module _ (b : List ℕ) (tree : isTree b ≡ true) where
       violations-is = rw (root b tree .is) (fits valueLimit value _ a)
 
       -- the numbers of the violated citations
-      pub violations-listed : (o : ViolationsAnswer) → 512 ≤ length old → violationsSaid o ≡ answerOf (violationsAnswer b value) (length old) → new ≡ writtenOf (violationsAnswer b value) old
-          → (violationsSaid o ≡ ok (length (violations value e))) × ((n : ℕ) → n ≡ length (violations value e) → (n ≤ 256) × (numbersFrom new n 0 ≡ violations value e))
+      pub violations-listed : (o : ViolationsAnswer) → longestList ≤ length old → violationsSaid o ≡ answerOf (violationsAnswer b value) (length old) → new ≡ writtenOf (violationsAnswer b value) old
+          → (violationsSaid o ≡ ok (length (violations value e))) × ((n : ℕ) → n ≡ length (violations value e) → (n ≤ citationLimit) × (numbersFrom new n 0 ≡ violations value e))
       violations-listed o room f g =
           let ns = violations value e in
           let l = listed value e (root b tree .fits) in
@@ -114,7 +115,7 @@ module _ (b : List ℕ) (tree : isTree b ≡ true) where
           (s .0, λ n h. (omega (arith, h, l .few), ap (λ (x : ℕ). numbersFrom new x 0) h ∙ numbers-got new (drop (length (numberBytes ns)) old) ns 0 (s .1)))
 
   -- what holds of the violations' numbers, by the texts of the tree
-  pub violations-small : (value ns : List ℕ) → ns ≡ violations value e → AllBelow (cites b) ns × (length (named (textsIn b) ns) ≤ 2304) × (named (textsIn b) ns ≡ named (citations e) (violations value e))
+  pub violations-small : (value ns : List ℕ) → ns ≡ violations value e → AllBelow (cites b) ns × (length (named (textsIn b) ns) ≤ longestNamed) × (named (textsIn b) ns ≡ named (citations e) (violations value e))
   violations-small value ns h =
       let r = root b tree in
       let l = listed value e (r .fits) in
@@ -156,12 +157,12 @@ module _ (k : StatusKind) (b codes value : List ℕ) (tree : isTree b ≡ true) 
       admitted-ok valueLimit value r (p, f) (u .1) .0
 
 -- more letters than there can be citations: 16
-pub too-many : (b answers value : List ℕ) → isTree b ≡ true → 256 < length answers → evalAndTruthAnswer b (answerBytes answers) value ≡ refuse WrongAnswers
+pub too-many : (b answers value : List ℕ) → isTree b ≡ true → citationLimit < length answers → evalAndTruthAnswer b (answerBytes answers) value ≡ refuse WrongAnswers
 too-many b answers value h l =
     let r = root b h in
     sym (both-unfit b (answerBytes answers) value h (sym (fit-count b (answerBytes answers) h (λ q. omega (arith, q, l, answers-length answers, r .counts, r .fits .few)))))
 
-module _ (s a v old new : List ℕ) (o : StatusAnswer) (room : 6150 ≤ length old) (f : statusSaid o ≡ answerOf (statusAnswer s) (length old)) (g : new ≡ writtenOf (statusAnswer s) old) where
+module _ (s a v old new : List ℕ) (o : StatusAnswer) (room : longestTree ≤ length old) (f : statusSaid o ≡ answerOf (statusAnswer s) (length old)) (g : new ≡ writtenOf (statusAnswer s) old) where
   -- the answer and the lines, by what the status reads as
   abbrev Meets : Result Stated → Type 0
   Meets (refused j) = (statusSaid o ≡ refused j) × (lines s a v ≡ line "refused " (figures j))

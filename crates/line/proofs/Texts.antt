@@ -17,6 +17,7 @@ use Rattle.status.specs.declared.StatusKind.the-variants.{Muss, Soll, Kann, X, 
 use Rattle.status.specs.Status.{wordOf}
 use Rattle.fields.specs.Appended.{Appended}
 use Rattle.fields.proofs.Appends.{both, same}
+use Rattle.line.specs.Sizes.{longestWord, longestTruth, longestNumber, longestStatusLine}
 use Rattle.line.specs.Lines.{lineFeed, answerByte, answerBytes, figure, figures, truthName, line, fiveLines, aloneLines, lines}
 use Rattle.line.specs.Parts.{Within}
 
@@ -63,14 +64,14 @@ answers-done a codes i h l e =
 
 module _ (n : ℕ) {at : ℕ} {k : List ℕ} where
   -- a number of one digit
-  pub one-figure : (x : ℕ) → x ≡ figure n → n < 10 → {p : ℕ} {l : List ℕ} → Appended (x ∷ []) at k l p → Within 3 (figures n) at k l p
+  pub one-figure : (x : ℕ) → x ≡ figure n → n < 10 → {p : ℕ} {l : List ℕ} → Appended (x ∷ []) at k l p → Within longestNumber (figures n) at k l p
   unfolding figures
   one-figure x e h a =
       let is : x ∷ [] ≡ figures n = rw (lt-ltb n 10 h) (ap (λ (y : ℕ). y ∷ []) e) in
       record { written = same is a; short = omega (arith, a .ends) }
 
   -- of two
-  pub two-figures : (x y : ℕ) → x ≡ figure (n / 10) → y ≡ figure (n % 10) → 10 ≤ n → n < 100 → {p q : ℕ} {l m : List ℕ} → Appended (x ∷ []) at k l p → Appended (y ∷ []) p l m q → Within 3 (figures n) at k m q
+  pub two-figures : (x y : ℕ) → x ≡ figure (n / 10) → y ≡ figure (n % 10) → 10 ≤ n → n < 100 → {p q : ℕ} {l m : List ℕ} → Appended (x ∷ []) at k l p → Appended (y ∷ []) p l m q → Within longestNumber (figures n) at k m q
   unfolding figures
   two-figures x y e f h i a b =
       let is : x ∷ y ∷ [] ≡ figures n = rw (le-ltb n 10 h, lt-ltb n 100 i) (ap (λ (z : ℕ). z ∷ y ∷ []) e ∙ ap (λ (z : ℕ). figure (n / 10) ∷ z ∷ []) f) in
@@ -78,7 +79,7 @@ module _ (n : ℕ) {at : ℕ} {k : List ℕ} where
 
   -- of three
   pub three-figures : (x y z : ℕ) → x ≡ figure (n / 100) → y ≡ figure (n / 10 % 10) → z ≡ figure (n % 10) → 100 ≤ n → {p q r : ℕ} {l m o : List ℕ}
-      → Appended (x ∷ []) at k l p → Appended (y ∷ []) p l m q → Appended (z ∷ []) q m o r → Within 3 (figures n) at k o r
+      → Appended (x ∷ []) at k l p → Appended (y ∷ []) p l m q → Appended (z ∷ []) q m o r → Within longestNumber (figures n) at k o r
   unfolding figures
   three-figures x y z e f g h a b c =
       let is : x ∷ y ∷ z ∷ [] ≡ figures n =
@@ -100,14 +101,14 @@ pub within : (most : ℕ) {text said : List ℕ} {at p : ℕ} {k l : List ℕ} �
 within most e h a = record { written = same e a; short = omega (arith, a .ends) }
 
 -- a number that was written is another
-pub same-figures : (n m : ℕ) {at p : ℕ} {k l : List ℕ} → n ≡ m → Within 3 (figures n) at k l p → Within 3 (figures m) at k l p
-same-figures n m {at} {p} {k} {l} e w = subst (λ (x : ℕ). Within 3 (figures x) at k l p) e w
+pub same-figures : (n m : ℕ) {at p : ℕ} {k l : List ℕ} → n ≡ m → Within longestNumber (figures n) at k l p → Within longestNumber (figures m) at k l p
+same-figures n m {at} {p} {k} {l} e w = subst (λ (x : ℕ). Within longestNumber (figures x) at k l p) e w
 
 -- a truth's name was written
-pub named-truth : (t u : Truth) {text : List ℕ} {at p : ℕ} {k l : List ℕ} → t ≡ u → truthName u ≡ text → length text ≤ 7 → Appended text at k l p → Within 7 (truthName t) at k l p
+pub named-truth : (t u : Truth) {text : List ℕ} {at p : ℕ} {k l : List ℕ} → t ≡ u → truthName u ≡ text → length text ≤ longestTruth → Appended text at k l p → Within longestTruth (truthName t) at k l p
 named-truth t u e f h a = record { written = same (sym (ap truthName e ∙ f)) a; short = omega (arith, a .ends) }
 
-word-short : (k : StatusKind) → length (wordOf k) ≤ 4
+word-short : (k : StatusKind) → length (wordOf k) ≤ longestWord
 word-short Muss = omega arith
 word-short Soll = omega arith
 word-short Kann = omega arith
@@ -116,12 +117,12 @@ word-short M = omega arith
 word-short S = omega arith
 word-short K = omega arith
 
--- a status word has at most four bytes
-pub word-room : (k : StatusKind) (text : List ℕ) → text ≡ wordOf k → length text ≤ 4
+-- a status word is short
+pub word-room : (k : StatusKind) (text : List ℕ) → text ≡ wordOf k → length text ≤ longestWord
 word-room k text e = omega (arith, ap length e, word-short k)
 
 -- a status word was written
-pub named-word : (k : StatusKind) {text : List ℕ} {at p : ℕ} {l m : List ℕ} → text ≡ wordOf k → Appended text at l m p → Within 4 (wordOf k) at l m p
+pub named-word : (k : StatusKind) {text : List ℕ} {at p : ℕ} {l m : List ℕ} → text ≡ wordOf k → Appended text at l m p → Within longestWord (wordOf k) at l m p
 named-word k {text} e a = record { written = same e a; short = omega (arith, a .ends, word-room k text e) }
 
 -- a line: its name, what it says, a line feed
@@ -130,7 +131,7 @@ pub lined : (name : String) (most : ℕ) {text said : List ℕ} {at p q r : ℕ}
 lined name most e a b c = record { written = both (same (sym e) a) (both (b .written) c); short = omega (arith, a .ends, b .short, c .ends) }
 
 -- the line of a format truth and texts
-pub formatted : (name : String) {text truth texts said : List ℕ} {at p q r z : ℕ} {k l m n o : List ℕ} → bytes name ≡ text → texts ≡ said → Appended text at k l p → Within 7 truth p l m q → Appended texts q m n r → Appended (lineFeed ∷ []) r n o z
+pub formatted : (name : String) {text truth texts said : List ℕ} {at p q r z : ℕ} {k l m n o : List ℕ} → bytes name ≡ text → texts ≡ said → Appended text at k l p → Within longestTruth truth p l m q → Appended texts q m n r → Appended (lineFeed ∷ []) r n o z
     → Appended (line name (truth ++ said)) at k o z
 formatted name e f a b c d = both (same (sym e) a) (both (both (b .written) (same f c)) d)
 
@@ -152,7 +153,7 @@ four-lines = refl
 
 -- the lines of a word alone
 pub alone-written : (k : StatusKind) {text : List ℕ} {p q : ℕ} {l m o : List ℕ} → line "tree " (bytes "-") ++ (line "presence " (bytes "-") ++ (line "pakete " (bytes "-") ++ line "format " (bytes "-"))) ≡ text
-    → Within 12 (line "status " (wordOf k)) 0 l m p → Appended text p m o q → Appended (aloneLines k) 0 l o q
+    → Within longestStatusLine (line "status " (wordOf k)) 0 l m p → Appended text p m o q → Appended (aloneLines k) 0 l o q
 alone-written k {text} e a b = same (alone-rest k text (sym e)) (both (a .written) b)
 
 -- the lines of the same three lines

@@ -5,6 +5,7 @@ use mathlib.Core.Bool.{cond}
 use Prim.Native.Nat.{ℕ, zero, suc, _+_, _≤_}
 use lib.Dec.{eqb, ltb}
 use lib.ListN.{length, take}
+use Rattle.line.specs.Sizes.{keptStatus, keptAnswers, keptValue}
 use Rattle.line.specs.Lines.{lineFeed, lines}
 use Rattle.line.specs.declared.Held.{Held}
 
@@ -49,9 +50,9 @@ nextRow row = cond (ltb row 3) (row + 1) row
 -- after any other byte
 abbrev pub withByte : ℕ → Kept → Kept
 withByte b h =
-    cond (eqb (h .row) 0) (record { row = h .row; status = longer 4401 b (h .status); answers = h .answers; value = h .value })
-    (cond (eqb (h .row) 1) (record { row = h .row; status = h .status; answers = longer 257 b (h .answers); value = h .value })
-    (cond (eqb (h .row) 2) (record { row = h .row; status = h .status; answers = h .answers; value = longer 1025 b (h .value) })
+    cond (eqb (h .row) 0) (record { row = h .row; status = longer keptStatus b (h .status); answers = h .answers; value = h .value })
+    (cond (eqb (h .row) 1) (record { row = h .row; status = h .status; answers = longer keptAnswers b (h .answers); value = h .value })
+    (cond (eqb (h .row) 2) (record { row = h .row; status = h .status; answers = h .answers; value = longer keptValue b (h .value) })
     h))
 
 -- after one byte
@@ -69,12 +70,12 @@ keptIn h s a v = record { row = h .row; status = take (h .status) s; answers = t
 
 -- the buffers are as long as what decides, and the counts within them
 pub record Buffers (h : Held) (s a v : List ℕ) : Type 0 where
-  pub statusSize : length s ≡ 4401
-  pub answersSize : length a ≡ 257
-  pub valueSize : length v ≡ 1025
-  pub statusIn : h .status ≤ 4401
-  pub answersIn : h .answers ≤ 257
-  pub valueIn : h .value ≤ 1025
+  pub statusSize : length s ≡ keptStatus
+  pub answersSize : length a ≡ keptAnswers
+  pub valueSize : length v ≡ keptValue
+  pub statusIn : h .status ≤ keptStatus
+  pub answersIn : h .answers ≤ keptAnswers
+  pub valueIn : h .value ≤ keptValue
 
 -- nothing is held yet
 abbrev pub noneHeld : Held
@@ -82,4 +83,4 @@ noneHeld = record { row = 0; status = 0; answers = 0; value = 0 }
 
 -- buffers as long as what decides
 abbrev pub Sized : (s a v : List ℕ) → Type 0
-Sized s a v = (length s ≡ 4401) × ((length a ≡ 257) × (length v ≡ 1025))
+Sized s a v = (length s ≡ keptStatus) × ((length a ≡ keptAnswers) × (length v ≡ keptValue))

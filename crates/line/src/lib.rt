@@ -27,6 +27,7 @@ ghost use Rattle.refusal.specs.Refusals.{numberOf};
 ghost use Rattle.status.specs.Status.{wordOf};
 ghost use Rattle.grammar.specs.Lex.{blankChar};
 ghost use Rattle.grammar.specs.Print.{printed};
+ghost use Rattle.grammar.specs.Reading.{citationLimit};
 ghost use Rattle.grammar.specs.Bytes.{cites, textsIn, isTree, treeAt};
 ghost use Rattle.grammar.specs.Outcome.{answerOf, writtenOf};
 ghost use Rattle.semantics.specs.Violations as violated;
@@ -36,6 +37,7 @@ ghost use Rattle.tree.specs.Walk.{textAt};
 ghost use Rattle.line.specs.Lines.{answerByte, answerBytes, figure, figures, truthName, named, line, aloneLines, formatSaid, treeLines, judgedLines, shown, lines, reportAnswer};
 ghost use Rattle.line.specs.Said.{reportSaid};
 ghost use Rattle.line.specs.Input.{longer, nextRow, fed, fedAll, keptIn, Buffers, noneHeld};
+ghost use Rattle.line.specs.Sizes.{longestWord, longestTruth, longestNumber, longestTree, longestPrint, longestRows, longestList, longestStatusLine, longestTreeLine, longestPresenceLine, longestPaketeLine, longestFormatLine, longestRefusedLine, longestReport};
 ghost use Rattle.line.specs.Parts.{Within, numbersFrom, AllBelow, Admitted};
 
 // What decides of the three lines: one byte more than is admitted, and one letter more than there can be citations.
@@ -113,8 +115,8 @@ fn digit(d: usize) -> u8
 
 // A number in decimal; the answer is the place after it, here and below.
 fn put_number(n: usize, out: &mut [u8], at: usize) -> usize
-    requires { ⌜ (n < 1000) × (at + 3 ≤ length (now out)) ⌝ }
-    ensures { λ r. ⌜ Within 3 (figures n) at (now (out .entry)) (now (out .exit)) r ⌝ }
+    requires { ⌜ (n < 1000) × (at + longestNumber ≤ length (now out)) ⌝ }
+    ensures { λ r. ⌜ Within longestNumber (figures n) at (now (out .entry)) (now (out .exit)) r ⌝ }
 {
     if n < 10 {
         return put_byte(out, at, digit(n));
@@ -129,8 +131,8 @@ fn put_number(n: usize, out: &mut [u8], at: usize) -> usize
 }
 
 fn put_truth(truth: Truth, out: &mut [u8], at: usize) -> usize
-    requires { ⌜ at + 7 ≤ length (now out) ⌝ }
-    ensures { λ r. ⌜ Within 7 (truthName truth) at (now (out .entry)) (now (out .exit)) r ⌝ }
+    requires { ⌜ at + longestTruth ≤ length (now out) ⌝ }
+    ensures { λ r. ⌜ Within longestTruth (truthName truth) at (now (out .entry)) (now (out .exit)) r ⌝ }
 {
     match truth {
         Truth::False => put_text(b"False", out, at),
@@ -141,8 +143,8 @@ fn put_truth(truth: Truth, out: &mut [u8], at: usize) -> usize
 }
 
 fn put_word(kind: StatusKind, out: &mut [u8], at: usize) -> usize
-    requires { ⌜ at + 4 ≤ length (now out) ⌝ }
-    ensures { λ r. ⌜ Within 4 (wordOf kind) at (now (out .entry)) (now (out .exit)) r ⌝ }
+    requires { ⌜ at + longestWord ≤ length (now out) ⌝ }
+    ensures { λ r. ⌜ Within longestWord (wordOf kind) at (now (out .entry)) (now (out .exit)) r ⌝ }
 {
     let held = kind.as_str();
     let bytes = held.bytes;
@@ -152,7 +154,7 @@ fn put_word(kind: StatusKind, out: &mut [u8], at: usize) -> usize
 
 // refused N
 fn refused_line(why: Refusal, out: &mut [u8]) -> usize
-    requires { ⌜ 12 ≤ length (now out) ⌝ }
+    requires { ⌜ longestRefusedLine ≤ length (now out) ⌝ }
     ensures { λ r. ⌜ Appended (line "refused " (figures (numberOf why))) 0 (now (out .entry)) (now (out .exit)) r ⌝ }
 {
     let number = why.number() as usize;
@@ -162,8 +164,8 @@ fn refused_line(why: Refusal, out: &mut [u8]) -> usize
 }
 
 fn status_line(kind: StatusKind, out: &mut [u8], at: usize) -> usize
-    requires { ⌜ at + 12 ≤ length (now out) ⌝ }
-    ensures { λ r. ⌜ Within 12 (line "status " (wordOf kind)) at (now (out .entry)) (now (out .exit)) r ⌝ }
+    requires { ⌜ at + longestStatusLine ≤ length (now out) ⌝ }
+    ensures { λ r. ⌜ Within longestStatusLine (line "status " (wordOf kind)) at (now (out .entry)) (now (out .exit)) r ⌝ }
 {
     let from = put_text(b"status ", out, at);
     let end = put_word(kind, out, from);
@@ -172,8 +174,8 @@ fn status_line(kind: StatusKind, out: &mut [u8], at: usize) -> usize
 
 // The print of a tree, at the start of a scratch.
 fn print_into(tree: &[u8], scratch: &mut [u8]) -> usize
-    requires { ⌜ (isTree (now tree) ≡ true) × (4343 ≤ length (now scratch)) ⌝ }
-    ensures { λ r. ⌜ (r ≤ 4343) × (take r (now (scratch .exit)) ≡ printed (treeAt (now (tree .entry)) 0)) ⌝ }
+    requires { ⌜ (isTree (now tree) ≡ true) × (longestPrint ≤ length (now scratch)) ⌝ }
+    ensures { λ r. ⌜ (r ≤ longestPrint) × (take r (now (scratch .exit)) ≡ printed (treeAt (now (tree .entry)) 0)) ⌝ }
 {
     match display(tree, scratch) {
         Displayed::Done(n) => n,
@@ -182,8 +184,8 @@ fn print_into(tree: &[u8], scratch: &mut [u8]) -> usize
 }
 
 fn tree_line(tree: &[u8], out: &mut [u8], at: usize) -> usize
-    requires { ⌜ (isTree (now tree) ≡ true) × (at + 4349 ≤ length (now out)) ⌝ }
-    ensures { λ r. ⌜ Within 4349 (line "tree " (printed (treeAt (now (tree .entry)) 0))) at (now (out .entry)) (now (out .exit)) r ⌝ }
+    requires { ⌜ (isTree (now tree) ≡ true) × (at + longestTreeLine ≤ length (now out)) ⌝ }
+    ensures { λ r. ⌜ Within longestTreeLine (line "tree " (printed (treeAt (now (tree .entry)) 0))) at (now (out .entry)) (now (out .exit)) r ⌝ }
 {
     let mut scratch = [0u8; PRINT_LIMIT];
     let n = print_into(tree, &mut scratch);
@@ -193,8 +195,8 @@ fn tree_line(tree: &[u8], out: &mut [u8], at: usize) -> usize
 }
 
 fn presence_line(truth: Truth, out: &mut [u8], at: usize) -> usize
-    requires { ⌜ at + 17 ≤ length (now out) ⌝ }
-    ensures { λ r. ⌜ Within 17 (line "presence " (truthName truth)) at (now (out .entry)) (now (out .exit)) r ⌝ }
+    requires { ⌜ at + longestPresenceLine ≤ length (now out) ⌝ }
+    ensures { λ r. ⌜ Within longestPresenceLine (line "presence " (truthName truth)) at (now (out .entry)) (now (out .exit)) r ⌝ }
 {
     let from = put_text(b"presence ", out, at);
     let end = put_truth(truth, out, from);
@@ -203,8 +205,8 @@ fn presence_line(truth: Truth, out: &mut [u8], at: usize) -> usize
 
 // How many package rows a tree has.
 fn count_pakete(tree: &[u8], scratch: &mut [u8]) -> usize
-    requires { ⌜ (isTree (now tree) ≡ true) × (4864 ≤ length (now scratch)) ⌝ }
-    ensures { λ r. ⌜ (r ≤ 256) × (r ≡ length (packages.pakete (treeAt (now (tree .entry)) 0))) ⌝ }
+    requires { ⌜ (isTree (now tree) ≡ true) × (longestRows ≤ length (now scratch)) ⌝ }
+    ensures { λ r. ⌜ (r ≤ citationLimit) × (r ≡ length (packages.pakete (treeAt (now (tree .entry)) 0))) ⌝ }
 {
     match pakete(tree, scratch) {
         PaketeAnswer::Rows(n) => n,
@@ -213,8 +215,8 @@ fn count_pakete(tree: &[u8], scratch: &mut [u8]) -> usize
 }
 
 fn pakete_line(tree: &[u8], out: &mut [u8], at: usize) -> usize
-    requires { ⌜ (isTree (now tree) ≡ true) × (at + 11 ≤ length (now out)) ⌝ }
-    ensures { λ r. ⌜ Within 11 (line "pakete " (figures (length (packages.pakete (treeAt (now (tree .entry)) 0))))) at (now (out .entry)) (now (out .exit)) r ⌝ }
+    requires { ⌜ (isTree (now tree) ≡ true) × (at + longestPaketeLine ≤ length (now out)) ⌝ }
+    ensures { λ r. ⌜ Within longestPaketeLine (line "pakete " (figures (length (packages.pakete (treeAt (now (tree .entry)) 0))))) at (now (out .entry)) (now (out .exit)) r ⌝ }
 {
     let mut scratch = [0u8; ROWS_SIZE];
     let n = count_pakete(tree, &mut scratch);
@@ -251,8 +253,8 @@ fn put_named(tree: &[u8], list: &[u8], count: usize, out: &mut [u8], at: usize) 
 
 // The numbers of the violated citations, at the start of a scratch.
 fn list_violations(tree: &[u8], value: &[u8], scratch: &mut [u8]) -> usize
-    requires { ⌜ (isTree (now tree) ≡ true) × Admitted (now value) × (512 ≤ length (now scratch)) ⌝ }
-    ensures { λ r. ⌜ (r ≤ 256) × (numbersFrom (now (scratch .exit)) r 0 ≡ violated.violations (now (value .entry)) (treeAt (now (tree .entry)) 0)) ⌝ }
+    requires { ⌜ (isTree (now tree) ≡ true) × Admitted (now value) × (longestList ≤ length (now scratch)) ⌝ }
+    ensures { λ r. ⌜ (r ≤ citationLimit) × (numbersFrom (now (scratch .exit)) r 0 ≡ violated.violations (now (value .entry)) (treeAt (now (tree .entry)) 0)) ⌝ }
 {
     match violations(tree, value, scratch) {
         ViolationsAnswer::Count(n) => n,
@@ -261,7 +263,7 @@ fn list_violations(tree: &[u8], value: &[u8], scratch: &mut [u8]) -> usize
 }
 
 fn format_line(truth: Truth, tree: &[u8], value: &[u8], out: &mut [u8], at: usize) -> usize
-    requires { ⌜ (isTree (now tree) ≡ true) × Admitted (now value) × (at + 2319 ≤ length (now out)) ⌝ }
+    requires { ⌜ (isTree (now tree) ≡ true) × Admitted (now value) × (at + longestFormatLine ≤ length (now out)) ⌝ }
     ensures { λ r. ⌜ Appended (line "format " (formatSaid (now (value .entry)) truth (treeAt (now (tree .entry)) 0))) at (now (out .entry)) (now (out .exit)) r ⌝ }
 {
     let mut list = [0u8; LIST_SIZE];
@@ -274,7 +276,7 @@ fn format_line(truth: Truth, tree: &[u8], value: &[u8], out: &mut [u8], at: usiz
 
 // The lines of a word alone.
 fn alone_lines(kind: StatusKind, out: &mut [u8]) -> usize
-    requires { ⌜ 6708 ≤ length (now out) ⌝ }
+    requires { ⌜ longestReport ≤ length (now out) ⌝ }
     ensures { λ r. ⌜ Appended (aloneLines kind) 0 (now (out .entry)) (now (out .exit)) r ⌝ }
 {
     let from = status_line(kind, out, 0);
@@ -290,7 +292,7 @@ fn tree_lines(
     format: Truth,
     out: &mut [u8],
 ) -> usize
-    requires { ⌜ (isTree (now tree) ≡ true) × Admitted (now value) × (6708 ≤ length (now out)) ⌝ }
+    requires { ⌜ (isTree (now tree) ≡ true) × Admitted (now value) × (longestReport ≤ length (now out)) ⌝ }
     ensures { λ r. ⌜ Appended (treeLines kind (treeAt (now (tree .entry)) 0) (now (value .entry)) presence format) 0 (now (out .entry)) (now (out .exit)) r ⌝ }
 {
     let a = status_line(kind, out, 0);
@@ -302,7 +304,7 @@ fn tree_lines(
 
 // The lines of a word and a tree, by answer bytes.
 fn judged_lines(kind: StatusKind, tree: &[u8], codes: &[u8], value: &[u8], out: &mut [u8]) -> usize
-    requires { ⌜ (isTree (now tree) ≡ true) × (6708 ≤ length (now out)) ⌝ }
+    requires { ⌜ (isTree (now tree) ≡ true) × (longestReport ≤ length (now out)) ⌝ }
     ensures { λ r. ⌜ Appended (shown (judgedLines kind (now (tree .entry)) (treeAt (now (tree .entry)) 0) (now (codes .entry)) (now (value .entry)))) 0 (now (out .entry)) (now (out .exit)) r ⌝ }
 {
     match eval_and_truth(tree, codes, value) {
@@ -322,7 +324,7 @@ fn lettered_lines(
     value: &[u8],
     out: &mut [u8],
 ) -> usize
-    requires { ⌜ (isTree (now tree) ≡ true) × (length (now answers) ≤ length (now codes)) × (6708 ≤ length (now out)) ⌝ }
+    requires { ⌜ (isTree (now tree) ≡ true) × (length (now answers) ≤ length (now codes)) × (longestReport ≤ length (now out)) ⌝ }
     ensures { λ r. ⌜ Appended (shown (judgedLines kind (now (tree .entry)) (treeAt (now (tree .entry)) 0) (answerBytes (now (answers .entry))) (now (value .entry)))) 0 (now (out .entry)) (now (out .exit)) r ⌝ }
 {
     answer_bytes(answers, codes);
@@ -337,7 +339,7 @@ fn answered_lines(
     value: &[u8],
     out: &mut [u8],
 ) -> usize
-    requires { ⌜ (isTree (now tree) ≡ true) × (6708 ≤ length (now out)) ⌝ }
+    requires { ⌜ (isTree (now tree) ≡ true) × (longestReport ≤ length (now out)) ⌝ }
     ensures { λ r. ⌜ Appended (shown (judgedLines kind (now (tree .entry)) (treeAt (now (tree .entry)) 0) (answerBytes (now (answers .entry))) (now (value .entry)))) 0 (now (out .entry)) (now (out .exit)) r ⌝ }
 {
     if ANSWER_LIMIT < answers.len() {
@@ -355,7 +357,7 @@ fn write_lines(
     tree: &mut [u8],
     out: &mut [u8],
 ) -> usize
-    requires { ⌜ (6150 ≤ length (now tree)) × (6708 ≤ length (now out)) ⌝ }
+    requires { ⌜ (longestTree ≤ length (now tree)) × (longestReport ≤ length (now out)) ⌝ }
     ensures { λ r. ⌜ Appended (lines (now (status .entry)) (now (answers .entry)) (now (value .entry))) 0 (now (out .entry)) (now (out .exit)) r ⌝ }
 {
     match Status::parse(status, tree) {
@@ -484,7 +486,7 @@ pub fn feed_all(
 
 // The lines for the three lines that are kept; the answer is their length.
 pub fn report_held(held: Held, status: &[u8], answers: &[u8], value: &[u8], out: &mut [u8]) -> usize
-    requires { ⌜ Buffers held (now status) (now answers) (now value) × (6708 ≤ length (now out)) ⌝ }
+    requires { ⌜ Buffers held (now status) (now answers) (now value) × (longestReport ≤ length (now out)) ⌝ }
     ensures { λ r. ⌜ r ≤ length (now (out .exit)) ⌝ }
     ensures { λ r. ⌜ Appended (lines (take (held .status) (now (status .entry))) (take (held .answers) (now (answers .entry))) (take (held .value) (now (value .entry)))) 0 (now (out .entry)) (now (out .exit)) r ⌝ }
 {

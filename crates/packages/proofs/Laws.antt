@@ -69,20 +69,12 @@ rows-cons : (n : ℕ) (t : List ℕ) (ts : List (List ℕ)) → rowsOf n (t ∷ 
 unfolding rowsOf
 rows-cons n t ts = ap (λ (x : ℕ). rowOf n t ++ rowsOf x ts) (sym (add-one n))
 
-two-length : (n : ℕ) → length (twoBytes n) ≡ 2
-unfolding twoBytes
-two-length n = refl
-
 bytes-length : (width v : ℕ) → length (bytesUpTo width v) ≡ width
 unfolding bytesUpTo
 bytes-length zero v = refl
 bytes-length (suc width) v = ap suc (bytes-length width (v / 256))
 
--- the place after a number of two bytes
-pub after-two : (n : ℕ) {at q : ℕ} {l m : List ℕ} → Appended (twoBytes n) at l m q → q ≡ at + 2
-after-two n a = omega (arith, a .ends, two-length n)
-
--- the place after one of eight
+-- the place after a number of eight bytes
 pub after-eight : (v : ℕ) {at q : ℕ} {l m : List ℕ} → Appended (bytesUpTo 8 v) at l m q → q ≡ at + 8
 after-eight v a = omega (arith, a .ends, bytes-length 8 v)
 

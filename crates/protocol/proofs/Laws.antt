@@ -1,17 +1,15 @@
--- Laws of hex and of written bytes, as a loop over one byte a turn uses them. Assumes nothing.
+-- Laws of hex, as a loop over one byte a turn uses them. Assumes nothing.
 use Prim.Native.Nat.{ℕ, suc, _+_, _*_, _/_, _%_, _≤_, _<_}
-use mathlib.Core.Path.{_≡_, refl, sym, ap, ap₂, _∙_}
+use mathlib.Core.Path.{_≡_, refl, sym, ap, _∙_}
 use mathlib.Core.Bool.{cond, and-false}
 use mathlib.Core.List.{List, [], _∷_, _++_, append-assoc, append-nil}
 use native.Mathlib.Omega.{arith}
-use native.Mathlib.Nat.{add-zero}
 use native.Mathlib.Numerals.{add-one}
-use lib.ListN.{length, getD, take, drop, set, length-append, length-drop, take-append-drop, drop-of-length-le}
-use lib.Seq.{drop-cons, take-suc, length-take-le, set-at}
+use lib.ListN.{length, getD, take, drop, drop-of-length-le}
+use lib.Seq.{drop-cons, take-suc}
 use lib.Dec.{ltb}
 use borrow.Author.Tests.{lt-ltb, le-ltb}
 use Rattle.protocol.specs.Hex.{Decoded, bytes, noBytes, digitOf, digitValue, hexOf, fieldOf, led, isPair, pairs}
-use Rattle.protocol.specs.Output.{placed}
 
 -- bytes before others
 abbrev pub ledBy : List ℕ → Decoded → Decoded
@@ -67,28 +65,6 @@ module _ (f : List ℕ) (i : ℕ) where
   unfolding pairs
   pairs-end xs h = sym (ap (λ (l : List ℕ). ledBy xs (pairs l)) (drop-of-length-le f h) ∙ ap bytes (append-nil xs))
 
--- nothing is written
-pub placed-none : (old : List ℕ) (at : ℕ) → old ≡ placed old at []
-placed-none old at = sym (rw (append-nil (take at old), add-zero at) (take-append-drop at old))
-
-module _ (old : List ℕ) (at : ℕ) (s : List ℕ) (b : ℕ) (k : ℕ) (e : at + length s ≡ k) (h : k < length old) where
-  width : length (take at old ++ s) ≡ k
-  width = simp (length-append, length-take-le at old (omega arith)) e
-
-  further : at + length (s ++ (b ∷ [])) ≡ suc k
-  further = simp length-append (omega arith)
-
-  -- one byte more is written
-  pub placed-more : set (placed old at s) k b ≡ placed old at (s ++ (b ∷ []))
-  placed-more =
-      ap (λ (l : List ℕ). set ((take at old ++ s) ++ l) k b) (ap (λ (n : ℕ). drop n old) e ∙ drop-cons old k 0 h)
-      ∙ set-at (take at old ++ s) (getD old k 0) (drop (suc k) old) b k width
-      ∙ sym (append-assoc (take at old ++ s) (b ∷ []) (drop (suc k) old))
-      ∙ ap₂ (λ (l r : List ℕ). l ++ r) (append-assoc (take at old) s (b ∷ [])) (ap (λ (n : ℕ). drop n old) (sym further))
-
-pub length-placed : (old : List ℕ) (at : ℕ) (s : List ℕ) → at + length s ≤ length old → length (placed old at s) ≡ length old
-length-placed old at s h = simp (length-append, length-drop, length-take-le at old (omega arith)) (omega arith)
-
 pub length-hex : (s : List ℕ) → length (hexOf s) ≡ 2 * length s
 unfolding hexOf
 length-hex [] = refl
@@ -103,10 +79,10 @@ hex-append [] t = refl
 hex-append (b ∷ s) t = ap (λ (l : List ℕ). digitOf (b / 16) ∷ digitOf (b % 16) ∷ l) (hex-append s t)
 
 -- one byte more in hex
-pub hex-more : (s : List ℕ) (i : ℕ) → i < length s → hexOf (take (i + 1) s) ≡ (hexOf (take i s) ++ (digitOf (getD s i 0 / 16) ∷ [])) ++ (digitOf (getD s i 0 % 16) ∷ [])
+pub hex-more : (s : List ℕ) (i x y : ℕ) → i < length s → x ≡ digitOf (getD s i 0 / 16) → y ≡ digitOf (getD s i 0 % 16) → (hexOf (take i s) ++ (x ∷ [])) ++ (y ∷ []) ≡ hexOf (take (i + 1) s)
 unfolding hexOf
-hex-more s i h =
-    rw (add-one, take-suc s i 0 h) (hex-append (take i s) (getD s i 0 ∷ []) ∙ sym (append-assoc (hexOf (take i s)) (digitOf (getD s i 0 / 16) ∷ []) (digitOf (getD s i 0 % 16) ∷ [])))
+hex-more s i x y h e f =
+    rw (e, f, add-one, take-suc s i 0 h) (append-assoc (hexOf (take i s)) (digitOf (getD s i 0 / 16) ∷ []) (digitOf (getD s i 0 % 16) ∷ []) ∙ sym (hex-append (take i s) (getD s i 0 ∷ [])))
 
 pub field-some : (s : List ℕ) → 0 < length s → fieldOf s ≡ hexOf s
 field-some [] h = absurd (omega arith)

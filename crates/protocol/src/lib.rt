@@ -1,11 +1,12 @@
-// Lines of a word and fields, each after one space: byte strings read from lower-case hex, and bytes
-// and hex written.
+// Lines of a word and fields, each after one space: byte strings read from lower-case hex, and
+// written.
 ghost use mathlib.Core.Path.{_≡_};
 ghost use Prim.Native.Nat.{_+_, _*_, _≤_, _<_};
 ghost use lib.ListN.{length};
+ghost use Rattle.fields.specs.Appended.{Appended};
 ghost use Rattle.protocol.specs.Hex.{digitOf, digitValue, fieldOf, pairs, fieldBytes, filledSaid};
 ghost use Rattle.protocol.specs.Fields.{Within, fieldWidth, fieldAt, oneAt, twoAt, threeAt, fieldSaid, twoSaid, threeSaid};
-ghost use Rattle.protocol.specs.Output.{placed};
+use fields::put_byte;
 
 // How many bytes were put at the start of a lent buffer, if there was a byte string.
 pub struct Filled {
@@ -221,37 +222,21 @@ pub fn three_fields(
     }
 }
 
-// Writes s at a place of out, and answers the place behind it.
-pub fn put(out: &mut [u8], at: usize, s: &[u8]) -> usize
-    requires { ⌜ at + length (now s) ≤ length (now out) ⌝ }
-    ensures { λ r. ⌜ r ≡ at + length (now (s .entry)) ⌝ }
-    ensures { λ _. ⌜ now (out .exit) ≡ placed (now (out .entry)) at (now (s .entry)) ⌝ }
-{
-    let mut i = 0;
-    while i < s.len() {
-        out[at + i] = s[i];
-        i += 1;
-    }
-    at + i
-}
-
-// The same of s as a field.
+// Writes s as a field at a place of out, and answers the place behind it.
 pub fn put_hex(out: &mut [u8], at: usize, s: &[u8]) -> usize
     requires { ⌜ at + (2 * length (now s) + 1) ≤ length (now out) ⌝ }
     ensures { λ r. ⌜ r ≤ at + (2 * length (now (s .entry)) + 1) ⌝ }
-    ensures { λ r. ⌜ r ≡ at + length (fieldOf (now (s .entry))) ⌝ }
-    ensures { λ _. ⌜ now (out .exit) ≡ placed (now (out .entry)) at (fieldOf (now (s .entry))) ⌝ }
+    ensures { λ r. ⌜ Appended (fieldOf (now (s .entry))) at (now (out .entry)) (now (out .exit)) r ⌝ }
 {
     if s.len() == 0 {
-        return put(out, at, b"-");
+        return put_byte(out, at, b'-');
     }
     let mut i = 0;
     let mut to = at;
     while i < s.len() {
         let b = s[i];
-        out[to] = digit_of(b / 16);
-        out[to + 1] = digit_of(b % 16);
-        to += 2;
+        to = put_byte(out, to, digit_of(b / 16));
+        to = put_byte(out, to, digit_of(b % 16));
         i += 1;
     }
     to

@@ -7,6 +7,8 @@ use citation::ConditionKind;
 use citation::KindAnswer;
 use citation::Paket;
 use citation::PaketAnswer;
+use fields::put_byte;
+use fields::put_text;
 use formats::FormatVerdict;
 use formats::RegisteredAnswer;
 use formats::VerdictAnswer;
@@ -40,7 +42,7 @@ fn decimal(out: &mut [u8], at: usize, n: u64) -> usize
 {
     let mut digits = [0u8; 20];
     let k = io::decimal(n, &mut digits);
-    protocol::put(out, at, &digits[..k])
+    put_text(&digits[..k], out, at)
 }
 
 // A space and a number.
@@ -48,7 +50,7 @@ fn number(out: &mut [u8], at: usize, n: u64) -> usize
     requires { ⌜ at + 21 ≤ length (now out) ⌝ }
     ensures { λ r. ⌜ r ≤ at + 21 ⌝ }
 {
-    let from = protocol::put(out, at, b" ");
+    let from = put_byte(out, at, b' ');
     decimal(out, from, n)
 }
 
@@ -58,14 +60,14 @@ fn figure(out: &mut [u8], n: u64) -> usize
     ensures { λ r. ⌜ r ≤ length (now (out .exit)) ⌝ }
 {
     let at = decimal(out, 0, n);
-    protocol::put(out, at, b"\n")
+    put_byte(out, at, b'\n')
 }
 
 fn bad_request(out: &mut [u8]) -> usize
     requires { ⌜ HasRoom (now out) ⌝ }
     ensures { λ r. ⌜ r ≤ length (now (out .exit)) ⌝ }
 {
-    protocol::put(out, 0, b"bad request\n")
+    put_text(b"bad request\n", out, 0)
 }
 
 // refused N
@@ -73,9 +75,9 @@ fn refused(out: &mut [u8], why: Refusal) -> usize
     requires { ⌜ HasRoom (now out) ⌝ }
     ensures { λ r. ⌜ r ≤ length (now (out .exit)) ⌝ }
 {
-    let at = protocol::put(out, 0, b"refused");
+    let at = put_text(b"refused", out, 0);
     let end = number(out, at, why.number() as u64);
-    protocol::put(out, end, b"\n")
+    put_byte(out, end, b'\n')
 }
 
 // A line of one byte.
@@ -83,7 +85,7 @@ fn letter(out: &mut [u8], b: u8) -> usize
     requires { ⌜ HasRoom (now out) ⌝ }
     ensures { λ r. ⌜ r ≤ length (now (out .exit)) ⌝ }
 {
-    protocol::put(out, 0, &[b, b'\n'])
+    put_text(&[b, b'\n'], out, 0)
 }
 
 // ok LOW MARK HIGH
@@ -91,11 +93,11 @@ fn bounds(out: &mut [u8], p: Paket) -> usize
     requires { ⌜ HasRoom (now out) ⌝ }
     ensures { λ r. ⌜ r ≤ length (now (out .exit)) ⌝ }
 {
-    let at = protocol::put(out, 0, b"ok");
+    let at = put_text(b"ok", out, 0);
     let low = number(out, at, p.low);
     let mark = number(out, low, p.bounded as u64);
     let high = number(out, mark, p.high);
-    protocol::put(out, high, b"\n")
+    put_byte(out, high, b'\n')
 }
 
 fn kind(line: &[u8], at: usize, text: &mut [u8], out: &mut [u8]) -> usize
@@ -172,11 +174,11 @@ fn done(out: &mut [u8], n: u64, buf: &[u8]) -> usize
     requires { ⌜ HasRoom (now out) × (length (now buf) ≤ 32768) ⌝ }
     ensures { λ r. ⌜ r ≤ length (now (out .exit)) ⌝ }
 {
-    let at = protocol::put(out, 0, b"ok");
+    let at = put_text(b"ok", out, 0);
     let end = number(out, at, n);
-    let from = protocol::put(out, end, b" ");
+    let from = put_byte(out, end, b' ');
     let last = protocol::put_hex(out, from, buf);
-    protocol::put(out, last, b"\n")
+    put_byte(out, last, b'\n')
 }
 
 // refused N BUF
@@ -184,11 +186,11 @@ fn turned_back(out: &mut [u8], why: Refusal, buf: &[u8]) -> usize
     requires { ⌜ HasRoom (now out) × (length (now buf) ≤ 32768) ⌝ }
     ensures { λ r. ⌜ r ≤ length (now (out .exit)) ⌝ }
 {
-    let at = protocol::put(out, 0, b"refused");
+    let at = put_text(b"refused", out, 0);
     let end = number(out, at, why.number() as u64);
-    let from = protocol::put(out, end, b" ");
+    let from = put_byte(out, end, b' ');
     let last = protocol::put_hex(out, from, buf);
-    protocol::put(out, last, b"\n")
+    put_byte(out, last, b'\n')
 }
 
 fn expr_into(text: &[u8], buf: &mut [u8], out: &mut [u8]) -> usize
@@ -222,11 +224,11 @@ fn alone(out: &mut [u8], code: u8, buf: &[u8]) -> usize
     requires { ⌜ HasRoom (now out) × (length (now buf) ≤ 32768) ⌝ }
     ensures { λ r. ⌜ r ≤ length (now (out .exit)) ⌝ }
 {
-    let at = protocol::put(out, 0, b"ok");
+    let at = put_text(b"ok", out, 0);
     let end = number(out, at, code as u64);
-    let from = protocol::put(out, end, b" none ");
+    let from = put_text(b" none ", out, end);
     let last = protocol::put_hex(out, from, buf);
-    protocol::put(out, last, b"\n")
+    put_byte(out, last, b'\n')
 }
 
 // ok CODE LENGTH BUF; the code has one digit
@@ -234,12 +236,12 @@ fn stated(out: &mut [u8], code: u8, n: usize, buf: &[u8]) -> usize
     requires { ⌜ HasRoom (now out) × (length (now buf) ≤ 32768) ⌝ }
     ensures { λ r. ⌜ r ≤ length (now (out .exit)) ⌝ }
 {
-    let at = protocol::put(out, 0, b"ok ");
-    let digit = protocol::put(out, at, &[48 + code % 10]);
+    let at = put_text(b"ok ", out, 0);
+    let digit = put_byte(out, at, 48 + code % 10);
     let end = number(out, digit, n as u64);
-    let from = protocol::put(out, end, b" ");
+    let from = put_byte(out, end, b' ');
     let last = protocol::put_hex(out, from, buf);
-    protocol::put(out, last, b"\n")
+    put_byte(out, last, b'\n')
 }
 
 fn status_into(text: &[u8], buf: &mut [u8], out: &mut [u8]) -> usize
@@ -363,7 +365,7 @@ fn tree(line: &[u8], at: usize, bytes: &mut [u8], out: &mut [u8]) -> usize
     }
     let n = field.len;
     if tree::is_tree(&bytes[..n]) {
-        return protocol::put(out, 0, b"ok\n");
+        return put_text(b"ok\n", out, 0);
     }
     refused(out, Refusal::NotATree)
 }
@@ -420,7 +422,7 @@ fn put_cited(tree: &[u8], start: usize, size: usize, out: &mut [u8], at: usize) 
     if at == 0 {
         return protocol::put_hex(out, 0, &tree[start..end]);
     }
-    let from = protocol::put(out, at, b",");
+    let from = put_byte(out, at, b',');
     protocol::put_hex(out, from, &tree[start..end])
 }
 
@@ -436,7 +438,7 @@ fn cited_into(tree: &[u8], out: &mut [u8]) -> usize
                 return refused(out, why);
             }
             CitedText::Absent => {
-                return protocol::put(out, at, b"\n");
+                return put_byte(out, at, b'\n');
             }
             CitedText::At { start, size } => {
                 at = put_cited(tree, start, size, out, at);
@@ -444,7 +446,7 @@ fn cited_into(tree: &[u8], out: &mut [u8]) -> usize
         }
         n += 1;
     }
-    protocol::put(out, at, b"\n")
+    put_byte(out, at, b'\n')
 }
 
 fn cited(line: &[u8], at: usize, bytes: &mut [u8], out: &mut [u8]) -> usize

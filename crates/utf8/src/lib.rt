@@ -28,6 +28,12 @@ pub struct Cursor {
     pub at: usize,
 }
 
+// Whether a text was read to its end, and how many characters were passed.
+struct Scanned {
+    pub whole: bool,
+    pub chars: usize,
+}
+
 // Whether bytes may be read as a text or a value.
 pub enum Admitted {
     Fine,
@@ -153,26 +159,37 @@ fn all_ascii(s: &[u8]) -> bool
     ascii
 }
 
-// The bytes are UTF-8, looked at character by character.
-fn every_char(s: &[u8]) -> bool
-    ensures { λ r. ⌜ r ≡ isUtf8 (now (s .entry)) ⌝ }
+// Reads a text up to its end, or to the first byte that fits no character.
+fn scan(s: &[u8]) -> Scanned
+    ensures { λ r. ⌜ (r .whole ≡ isUtf8 (now (s .entry))) × (r .chars ≡ charCount (now (s .entry))) ⌝ }
 {
+    let mut chars: usize = 0;
     let mut at = 0;
-    while at < s.len() {
+    loop {
         let here = step_at(s, at);
         match here {
             Step::Char { code: _, width } => {
                 at += width;
+                chars += 1;
             }
             Step::Bad => {
-                return false;
+                return Scanned {
+                    whole: false,
+                    chars,
+                };
             }
             Step::End => {
-                return true;
+                return Scanned { whole: true, chars };
             }
         }
     }
-    true
+}
+
+// The bytes are UTF-8, looked at character by character.
+fn every_char(s: &[u8]) -> bool
+    ensures { λ r. ⌜ r ≡ isUtf8 (now (s .entry)) ⌝ }
+{
+    scan(s).whole
 }
 
 // A text so long that all its bytes are first tested for ASCII.
@@ -200,24 +217,7 @@ pub fn is_utf8(s: &[u8]) -> bool
 pub fn count(s: &[u8]) -> usize
     ensures { λ r. ⌜ r ≡ charCount (now (s .entry)) ⌝ }
 {
-    let mut n: usize = 0;
-    let mut at = 0;
-    while at < s.len() {
-        let here = step_at(s, at);
-        match here {
-            Step::Char { code: _, width } => {
-                at += width;
-                n += 1;
-            }
-            Step::Bad => {
-                return n;
-            }
-            Step::End => {
-                return n;
-            }
-        }
-    }
-    n
+    scan(s).chars
 }
 
 // The white space of document 01.

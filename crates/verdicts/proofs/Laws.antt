@@ -7,7 +7,6 @@ use native.Mathlib.Omega.{arith}
 use lib.ListN.{length, take, length-append}
 use borrow.Author.Tests.{lt-ltb, le-ltb}
 use Rattle.refusal.specs.Result.{Result, ok, refused, refuse, then, map-ok}
-use Rattle.refusal.specs.Refusals.{numberOf}
 use Rattle.refusal.specs.declared.Refusal.{Refusal}
 use Rattle.refusal.specs.declared.Refusal.the-variants.{NotATree, NoRoom, WrongAnswers}
 use Rattle.utf8.specs.Limits.{valueLimit, admitted}
@@ -33,7 +32,7 @@ use Rattle.presence.specs.declared.EvalAnswer.{EvalAnswer}
 use Rattle.presence.specs.declared.EvalAnswer.the-variants as eval
 use Rattle.presence.specs.Said.{evalSaid}
 use Rattle.fields.specs.Appended.{Appended}
-use Rattle.fields.proofs.Appends.{nothing, both, same, whole}
+use Rattle.fields.proofs.Appends.{nothing, both, same, whole, two-size}
 use Rattle.tree.specs.Walk.{nodeKind, numberAt, firstAt, textAt}
 use Rattle.tree.proofs.Walks.{Walk, Next, leaf, root, no-tree, children-at, first-below, walk-begins, walk-next}
 use Rattle.verdicts.specs.declared.Tally.{Tally}
@@ -72,13 +71,9 @@ module _ (value : List ℕ) (n : ℕ) (text : List ℕ) (t : Truth) (x : Bool) (
   unfolding citedNumbers
   cited-nothing h = let no : isFalse (citedTruth value text) ≡ false = sym (ap isFalse e) ∙ sym f ∙ h in rw no (sym no-bytes)
 
-two-length : (n : ℕ) → length (twoBytes n) ≡ 2
-unfolding twoBytes
-two-length n = refl
-
 -- there is room for a violated citation's number
 pub cited-room : (n : ℕ) (bytes : List ℕ) → twoBytes n ≡ bytes → length bytes ≡ 2
-cited-room n bytes h = ap length (sym h) ∙ two-length n
+cited-room n bytes h = ap length (sym h) ∙ two-size n
 
 any-snoc : {A : Type 0} (p : A → Bool) (vs : List A) (v : A) → any p (vs ++ (v ∷ [])) ≡ p v || any p vs
 unfolding any

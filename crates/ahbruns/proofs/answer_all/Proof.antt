@@ -1,7 +1,7 @@
 use Prim.Native.Nat.{_≤_}
-use mathlib.Core.Path.{_≡_, refl, _∙_}
-use native.Mathlib.Omega.{arith}
+use mathlib.Core.Path.{_≡_, refl}
 use lib.ListN.{length}
+use Rattle.line.specs.Sizes.{longestReport}
 use Rattle.line.specs.Input.{Buffers}
 use Rattle.line.proofs.Inputs.{begins}
 use borrow.Author.Needs.{needs}
@@ -9,7 +9,7 @@ use Rattle.ahbruns.proofs.answer_all.Statement.{statement}
 use Rattle.ahbruns.proofs.answer_all.Tie as tie
 
 abbrev Inv-loop : tie.InvT-loop
-Inv-loop input₀ status₀ answers₀ value₀ out₀ held₀ turns₀ input status answers value out held turns = Buffers held status answers value × (6708 ≤ length out) × (length input ≡ length input₀) × (length status ≡ length status₀) × (length answers ≡ length answers₀) × (length value ≡ length value₀) × (length out ≡ length out₀)
+Inv-loop input₀ status₀ answers₀ value₀ out₀ held₀ turns₀ input status answers value out held turns = (Buffers held status answers value × (longestReport ≤ length out)) × (length input ≡ length input₀) × (length status ≡ length status₀) × (length answers ≡ length answers₀) × (length value ≡ length value₀) × (length out ≡ length out₀)
 
 abbrev μ-loop : tie.MeasureT-loop
 μ-loop input₀ status₀ answers₀ value₀ out₀ held₀ turns₀ input status answers value out held turns = turns
@@ -18,10 +18,10 @@ new-requires : tie.Need-new-requires Inv-loop μ-loop
 new-requires c κs = search needs
 
 loop-holds : tie.Need-loop-holds Inv-loop μ-loop
-loop-holds c = (begins _ _ _ _ (c .new .ensures) (c .before .before .before .before .before .before .pre .0), c .before .before .before .before .before .before .pre .1, refl, refl, refl, refl, refl)
+loop-holds c = ((begins _ _ _ _ (c .new .ensures) (c .before .before .before .before .before .before .pre .0), c .before .before .before .before .before .before .pre .1), refl, refl, refl, refl, refl)
 
 read-some-requires : tie.Need-read-some-requires Inv-loop μ-loop
-read-some-requires c κs = (c .before .before .before .before .before .before .loop .inv .0, c .before .before .before .before .before .before .loop .inv .1)
+read-some-requires c κs = search needs
 
 left-requires : tie.Need-left-requires Inv-loop μ-loop
 left-requires c κs = search needs
@@ -30,10 +30,10 @@ loop-less : tie.Need-loop-less Inv-loop μ-loop
 loop-less c = search needs
 
 loop-again : tie.Need-loop-again Inv-loop μ-loop
-loop-again c = (c .before .before .before .before .before .before .before .before .before .before .before .before .read-some .ensures, omega (arith, c .before .before .before .before .before .before .before .before .before .before .before .before .read-some .kept .1 .1 .1 .1 .1 .0, c .before .before .before .before .before .before .before .before .before .before .before .before .before .before .before .before .before .before .before .loop .inv .1), c .before .before .before .before .before .before .before .before .before .before .before .before .read-some .kept .1 .0 ∙ c .before .before .before .before .before .before .before .before .before .before .before .before .before .before .before .before .before .before .before .loop .inv .2, c .before .before .before .before .before .before .before .before .before .before .before .before .read-some .kept .1 .1 .0 ∙ c .before .before .before .before .before .before .before .before .before .before .before .before .before .before .before .before .before .before .before .loop .inv .3, c .before .before .before .before .before .before .before .before .before .before .before .before .read-some .kept .1 .1 .1 .0 ∙ c .before .before .before .before .before .before .before .before .before .before .before .before .before .before .before .before .before .before .before .loop .inv .4, c .before .before .before .before .before .before .before .before .before .before .before .before .read-some .kept .1 .1 .1 .1 .0 ∙ c .before .before .before .before .before .before .before .before .before .before .before .before .before .before .before .before .before .before .before .loop .inv .5, c .before .before .before .before .before .before .before .before .before .before .before .before .read-some .kept .1 .1 .1 .1 .1 .0 ∙ c .before .before .before .before .before .before .before .before .before .before .before .before .before .before .before .before .before .before .before .loop .inv .6)
+loop-again c = search needs
 
 end-run-requires : tie.Need-end-run-requires Inv-loop μ-loop
-end-run-requires c κs = (c .before .before .before .before .before .loop .inv .0, c .before .before .before .before .before .loop .inv .1)
+end-run-requires c κs = search needs
 
 same-length : tie.Need-same-length Inv-loop μ-loop
 same-length c = search needs

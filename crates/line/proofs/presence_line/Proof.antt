@@ -1,3 +1,4 @@
+use Rattle.line.specs.Sizes.{longestTruth}
 use Rattle.line.proofs.Texts.{line-names, lined}
 use borrow.Author.Needs.{needs}
 use Rattle.line.proofs.presence_line.Statement.{statement}
@@ -19,7 +20,7 @@ same-length : tie.Need-same-length
 same-length c = search needs
 
 returns : tie.Need-returns
-returns c = lined "presence " 7 (line-names .1 .1 .0) (c .before .before .before .before .before .before .before .before .before .before .put-text .ensures) (c .before .before .before .before .before .before .put-truth .ensures) (c .before .before .put-byte .ensures)
+returns c = lined "presence " longestTruth (line-names .1 .1 .0) (c .before .before .before .before .before .before .before .before .before .before .put-text .ensures) (c .before .before .before .before .before .before .put-truth .ensures) (c .before .before .put-byte .ensures)
 
 pub presence-line-spec : {M : Type 1} → statement M
 presence-line-spec =

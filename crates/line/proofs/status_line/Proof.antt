@@ -1,3 +1,4 @@
+use Rattle.line.specs.Sizes.{longestWord}
 use Rattle.line.proofs.Texts.{line-names, lined}
 use borrow.Author.Needs.{needs}
 use Rattle.line.proofs.status_line.Statement.{statement}
@@ -19,7 +20,7 @@ same-length : tie.Need-same-length
 same-length c = search needs
 
 returns : tie.Need-returns
-returns c = lined "status " 4 (line-names .0) (c .before .before .before .before .before .before .before .before .before .before .put-text .ensures) (c .before .before .before .before .before .before .put-word .ensures) (c .before .before .put-byte .ensures)
+returns c = lined "status " longestWord (line-names .0) (c .before .before .before .before .before .before .before .before .before .before .put-text .ensures) (c .before .before .before .before .before .before .put-word .ensures) (c .before .before .put-byte .ensures)
 
 pub status-line-spec : {M : Type 1} → statement M
 status-line-spec =

@@ -6,10 +6,10 @@ use Rattle.requests.proofs.cited_into.Statement.{statement}
 use Rattle.requests.proofs.cited_into.Tie as tie
 
 abbrev Inv-loop : tie.InvT-loop
-Inv-loop tree out₀ at₀ n₀ t8 t9 out at n = (at < 65600) × (length out ≡ length out₀)
+Inv-loop tree out₀ at₀ n₀ out at n = (at < 65600) × (length out ≡ length out₀)
 
 abbrev μ-loop : tie.MeasureT-loop
-μ-loop tree out₀ at₀ n₀ t8 t9 out at n = 256 - n
+μ-loop tree out₀ at₀ n₀ out at n = 256 - n
 
 loop-holds : tie.Need-loop-holds Inv-loop μ-loop
 loop-holds c = search needs
@@ -32,11 +32,8 @@ returns c = search needs
 enum-told : tie.Need-enum-told Inv-loop μ-loop
 enum-told c = search needs
 
-slice-aggregate-put : tie.Need-slice-aggregate-put Inv-loop μ-loop
-slice-aggregate-put c = search needs
-
-put-requires : tie.Need-put-requires Inv-loop μ-loop
-put-requires c κs = search needs
+put-byte-requires : tie.Need-put-byte-requires Inv-loop μ-loop
+put-byte-requires c κs = search needs
 
 same-length-2 : tie.Need-same-length-2 Inv-loop μ-loop
 same-length-2 c = search needs
@@ -59,11 +56,8 @@ loop-less c = search needs
 loop-again : tie.Need-loop-again Inv-loop μ-loop
 loop-again c = search needs
 
-slice-aggregate-put-2 : tie.Need-slice-aggregate-put-2 Inv-loop μ-loop
-slice-aggregate-put-2 c = search needs
-
-put-requires-2 : tie.Need-put-requires-2 Inv-loop μ-loop
-put-requires-2 c κs = search needs
+put-byte-requires-2 : tie.Need-put-byte-requires-2 Inv-loop μ-loop
+put-byte-requires-2 c κs = search needs
 
 same-length-3 : tie.Need-same-length-3 Inv-loop μ-loop
 same-length-3 c = search needs
@@ -84,8 +78,7 @@ cited-into-spec =
     same-length
     returns
     enum-told
-    slice-aggregate-put
-    put-requires
+    put-byte-requires
     same-length-2
     returns-2
     enum-known-start
@@ -93,7 +86,6 @@ cited-into-spec =
     add-n
     loop-less
     loop-again
-    slice-aggregate-put-2
-    put-requires-2
+    put-byte-requires-2
     same-length-3
     returns-3)

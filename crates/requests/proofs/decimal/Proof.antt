@@ -24,11 +24,11 @@ decimal-requires c κs = search needs
 array-share-prefix-digits : tie.Need-array-share-prefix-digits
 array-share-prefix-digits c = search needs
 
-slice-aggregate-put : tie.Need-slice-aggregate-put
-slice-aggregate-put c = search needs
+slice-aggregate-put-text : tie.Need-slice-aggregate-put-text
+slice-aggregate-put-text c = search needs
 
-put-requires : tie.Need-put-requires
-put-requires c κs =
+put-text-requires : tie.Need-put-text-requires
+put-text-requires c κs =
     omega (arith, few (c .before .before .before .before .before .args .n) (c .before .before .decimal .result) (c .before .before .decimal .ensures .1 .0) (c .before .before .before .before .before .fits .n .fits))
 
 same-length : tie.Need-same-length
@@ -44,7 +44,7 @@ decimal-spec =
     (tie.spec
     decimal-requires
     array-share-prefix-digits
-    slice-aggregate-put
-    put-requires
+    slice-aggregate-put-text
+    put-text-requires
     same-length
     returns)
