@@ -5,7 +5,7 @@ use Prim.Native.Nat.{ℕ, _≤_, _<_}
 use native.Mathlib.Omega.{arith}
 use lib.Dec.{eqb}
 use Rattle.laws.specs.Tests.{cond-both}
-use Rattle.refusal.specs.Result.{Result, ok, refused, map-ok}
+use Rattle.refusal.specs.Result.{Result, ok, refused}
 use Rattle.status.specs.declared.StatusKind.{StatusKind}
 use Rattle.status.specs.declared.StatusKind.the-variants.{Muss, Soll, Kann, X, M, S, K}
 use Rattle.status.specs.Status.{codeOf}
@@ -14,7 +14,7 @@ use Rattle.utf8.specs.Limits.{valueLimit}
 use Rattle.citation.specs.declared.Truth.{Truth}
 use Rattle.citation.specs.Truths.{truthNumber}
 use Rattle.grammar.specs.Bytes.{treeOf}
-use Rattle.grammar.specs.Outcome.{Outcome, answerOf, StatusSaid, wordAlone, withTree, parseAnswer, statusAnswer}
+use Rattle.grammar.specs.Outcome.{answerOf, StatusSaid, wordAlone, withTree, parseAnswer, statusAnswer}
 use Rattle.semantics.specs.Presence.{answered}
 use Rattle.semantics.specs.Sentences.{answered-truth}
 use Rattle.semantics.specs.Truth.{truth}

@@ -1,5 +1,5 @@
 -- Every refusal is one of document 01's table. Assumes nothing.
-use mathlib.Core.Path.{_≡_, refl, sym, ap, _∙_, subst}
+use mathlib.Core.Path.{_≡_, refl}
 use mathlib.Core.List.{List, [], _∷_, _++_}
 use mathlib.Core.Bool.{Bool, true, false, _&&_, not}
 use Prim.Native.Nat.{ℕ, _+_, _≤_}
@@ -12,7 +12,7 @@ use Rattle.refusal.specs.Refusals.{numberOf}
 use Rattle.refusal.specs.declared.Refusal.{Refusal}
 use Rattle.refusal.specs.declared.Refusal.the-variants.{Stray, Unterminated, EmptyCondition, MissingOperand, Parentheses, Empty, ChoiceOverNeutral, FailedAnswer, NoStatusWord, TooLong, NotUtf8, TooManyCitations, TooDeep, NoRoom, NotATree, WrongAnswers, NotAPaket}
 use Rattle.utf8.specs.Utf8.{isUtf8, decode, encode}
-use Rattle.utf8.specs.Limits.{textLimit, valueLimit, admitted}
+use Rattle.utf8.specs.Limits.{textLimit, admitted}
 use Rattle.text.specs.Bytes.{same}
 use Rattle.status.specs.declared.StatusKind.{StatusKind}
 use Rattle.status.specs.Status.{wordOf, kinds, kindAmong, kindOfWord}
@@ -23,7 +23,7 @@ use Rattle.grammar.specs.Expr.{And, Or, Xor, Expr, Exprs, cite, Then, join, non
 use Rattle.grammar.specs.Lex.{Tok, cited, op, opening, closing, Part, bracket, sign, left, right, space, stray, part, outer, inner, blank, also, lex, inside, texts, citeEnd}
 use Rattle.grammar.specs.Parse.{whole, Left, start, after, Opens, top, within, value, read, parse}
 use Rattle.grammar.specs.Reading.{someToken, few, shallow, openLimit, tree, expression, reading}
-use Rattle.grammar.specs.Status.{words, joined, Stated, stated, afterWord, ofWords, statusReading}
+use Rattle.grammar.specs.Status.{words, joined, stated, afterWord, ofWords, statusReading}
 use Rattle.grammar.specs.Bytes.{isTree, treeAt, treeOf}
 use Rattle.semantics.specs.Rules.{andRule, orRule, xorRule}
 use Rattle.semantics.specs.Presence.{failed, mixes, before, valued, dropped, presence, values, answered, oracleOf, answersFit}

@@ -1,15 +1,13 @@
 -- How large an accepted answer is. Assumes nothing.
 use mathlib.Core.Path.{_≡_, subst}
 use mathlib.Core.List.{List, []}
-use mathlib.Core.Bool.{cond}
-use Prim.Native.Nat.{ℕ, _+_, _*_, _≤_, _<_}
+use Prim.Native.Nat.{ℕ, _≤_, _<_}
 use native.Mathlib.Omega.{arith}
 use lib.Dec.{leb}
 use lib.ListN.{length}
 use Rattle.laws.specs.Tests.{cond-both}
-use Rattle.refusal.specs.Result.{Result, ok, refused, unless, unless-ok}
+use Rattle.refusal.specs.Result.{ok, refused, unless, unless-ok}
 use Rattle.refusal.specs.declared.Refusal.the-variants.{NoRoom, NotATree}
-use Rattle.status.specs.declared.StatusKind.{StatusKind}
 use Rattle.utf8.specs.Limits.{valueLimit, admitted}
 use Rattle.grammar.specs.Expr.{Expr, count}
 use Rattle.grammar.specs.Reading.{citationLimit, Fits, reading, reading-given}
@@ -22,10 +20,10 @@ use Rattle.semantics.specs.Rules.{isFalse}
 use Rattle.semantics.specs.Truth.{truth}
 use Rattle.semantics.specs.Violations.{violated, violations}
 use Rattle.semantics.specs.Sizes.{violated-few}
-use Rattle.semantics.specs.Answers.{numbered, truthAnswer, violationsAnswer}
+use Rattle.semantics.specs.Answers.{numbered, violationsAnswer}
 use Rattle.tree.proofs.Walks.{root}
 use Rattle.ahb.specs.Numbers.{codeStep}
-use Rattle.ahb.specs.Known.{Among, Known, unless-among, admitted-among, known-among, map-among, then-among, reading-known, status-known, tree-of-known}
+use Rattle.ahb.specs.Known.{Among, unless-among, admitted-among, known-among, map-among, then-among, reading-known, status-known, tree-of-known}
 
 -- from 1 to less than a step of the code
 abbrev pub Short : ℕ → Type 0

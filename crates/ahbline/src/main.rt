@@ -2,7 +2,6 @@
 //
 // A line ends before its line feed; a missing line is empty; a carriage return is a byte like any
 // other. What comes after the third line is not looked at.
-ghost use mathlib.Core.Path.{_≡_};
 ghost use Prim.Native.Nat.{_≤_, _<_};
 ghost use lib.ListN.{length};
 ghost use Rattle.line.specs.Sizes.{longestReport};

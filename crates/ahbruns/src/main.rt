@@ -4,7 +4,6 @@
 // line of a run are not looked at. Of the refusals four cannot arise: 6, since a word alone is
 // accepted; 14, since the buffers are long enough; 15, since the tree was read; 17, since unreadable
 // packages are skipped.
-ghost use mathlib.Core.Path.{_≡_};
 ghost use Prim.Native.Nat.{_≤_, _<_};
 ghost use lib.ListN.{length};
 ghost use Rattle.line.specs.Sizes.{longestReport};

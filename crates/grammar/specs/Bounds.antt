@@ -10,7 +10,7 @@ use Rattle.utf8.specs.Utf8.{encodeChar}
 use Rattle.grammar.specs.Expr.{Op, And, Or, Xor, Expr, Exprs, cite, Then, join, none, more, _◂_, Two, Wide, Wides, citations, citationsOf, count, concat}
 use Rattle.grammar.specs.Lex.{Tok, cited, op, opening, closing, symbol, texts}
 use Rattle.grammar.specs.Print.{inTokens, inBytes, signBytes, bracketed, print, listed, links, operand, printed}
-use Rattle.grammar.specs.Reading.{shallow, Fits}
+use Rattle.grammar.specs.Reading.{shallow, Fits, printLimit}
 
 mutual
   unfolding citations
@@ -172,7 +172,7 @@ print-room (Then es) r = omega (arith, listed-size (inBytes .gap) (omega arith) 
 print-room (join o es) r = omega (arith, listed-size (signBytes o) (sign-size o) es (r .0) (r .1))
 
 -- a print is at most 4,343 bytes long
-pub print-short : (e : Expr) → Fits e → length (printed e) ≤ 4343
+pub print-short : (e : Expr) → Fits e → length (printed e) ≤ printLimit
 unfolding print citations room
 print-short (cite t) f = omega (arith, cite-room t, f .small, f .few)
 print-short (Then es) f = omega (arith, listed-size (inBytes .gap) (omega arith) es (f .wide .0) (f .wide .1), f .small, f .few)

@@ -8,7 +8,7 @@ use Rattle.refusal.specs.Result.{Result, ok, unless}
 use Rattle.refusal.specs.declared.Refusal.the-variants.{NotATree}
 use Rattle.grammar.specs.Expr.{Expr, Exprs, concat, citations}
 use Rattle.grammar.specs.Citable.{citable}
-use Rattle.grammar.specs.Reading.{citationLimit, citedLimit}
+use Rattle.grammar.specs.Reading.{citationLimit, citedLimit, nodeLimit}
 use Rattle.grammar.specs.Rows.{Row, row, rows, first, build}
 
 -- the bytes of the header
@@ -22,6 +22,10 @@ rowSize = 6
 -- the bytes of a citation row
 abbrev pub citeSize : ℕ
 citeSize = 4
+
+-- most bytes of a tree: header, node rows, citation rows, texts
+abbrev pub treeLimit : ℕ
+treeLimit = headSize + rowSize * nodeLimit + citeSize * citationLimit + citedLimit
 
 -- a number as two bytes, little-endian
 unfoldable pub twoBytes : ℕ → List ℕ

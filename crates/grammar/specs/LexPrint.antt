@@ -1,9 +1,8 @@
 -- The printed bytes are UTF-8 and are lexed as the printed tokens. Assumes nothing.
-use mathlib.Core.Path.{_≡_, refl, sym, ap, _∙_}
+use mathlib.Core.Path.{_≡_, refl, ap, _∙_}
 use mathlib.Core.List.{List, [], _∷_, _++_, append-assoc, append-nil}
-use mathlib.Core.Bool.{Bool, true, false}
+use mathlib.Core.Bool.{true, false}
 use Prim.Native.Nat.{ℕ}
-use lib.Dec.{eqb}
 use Rattle.refusal.specs.Result.{Result, ok, refused, refuse, map-ok}
 use Rattle.refusal.specs.declared.Refusal.the-variants.{Unterminated}
 use Rattle.utf8.specs.Utf8.{isUtf8, decode, encode, encodeChar, leadOf}

@@ -3,7 +3,7 @@ use mathlib.Core.List.{List, [], _∷_}
 use mathlib.Core.Bool.{Bool, true, false, cond}
 use Rattle.refusal.specs.Result.{Result, ok, refuse}
 use Rattle.refusal.specs.declared.Refusal.the-variants.{MissingOperand, Parentheses}
-use Rattle.grammar.specs.Expr.{Op, And, Or, Xor, Expr, Exprs, cite, Then, join, none, more, _◂_, _⧺_, _▸_}
+use Rattle.grammar.specs.Expr.{Op, And, Or, Xor, Expr, Exprs, cite, Then, join, none, more, _◂_, _▸_}
 use Rattle.grammar.specs.Lex.{Tok, cited, op, opening, closing}
 
 -- the same operator

@@ -2,7 +2,7 @@
 use mathlib.Core.Path.{_≡_, refl}
 use mathlib.Core.List.{List, [], _∷_}
 use mathlib.Core.Bool.{Bool, true, false, _&&_}
-use Prim.Native.Nat.{ℕ, suc, pred, _≤_}
+use Prim.Native.Nat.{ℕ, suc, pred, _+_, _-_, _*_, _≤_}
 use lib.Dec.{leb, ltb}
 use lib.ListN.{length}
 use borrow.Author.Tests.{leb-true, le-leb}
@@ -31,6 +31,14 @@ citedLimit = 2048
 -- most parentheses open at a time
 abbrev pub openLimit : ℕ
 openLimit = 256
+
+-- most nodes: those of the citations, and fewer above them
+abbrev pub nodeLimit : ℕ
+nodeLimit = 2 * citationLimit - 1
+
+-- most bytes of a print: the texts, and for each citation but one nine bytes of brackets, parentheses and signs
+abbrev pub printLimit : ℕ
+printLimit = citedLimit + 9 * (citationLimit - 1)
 
 -- there are tokens
 unfoldable pub someToken : List Tok → Bool

@@ -4,9 +4,9 @@ use Prim.Native.Nat.{ℕ, _+_, _*_, _≤_}
 use native.Mathlib.Omega.{arith}
 use lib.ListN.{length, length-append}
 use Rattle.grammar.specs.Expr.{Expr, Exprs, cite, Then, join, none, more, Wide, Wides, concat, citations, citationsOf, count}
-use Rattle.grammar.specs.Reading.{Fits}
+use Rattle.grammar.specs.Reading.{Fits, nodeLimit}
 use Rattle.grammar.specs.Rows.{many, rows, span, spans, rows-span}
-use Rattle.grammar.specs.Bytes.{headSize, rowSize, citeSize, bytesOf}
+use Rattle.grammar.specs.Bytes.{headSize, rowSize, citeSize, bytesOf, treeLimit}
 use Rattle.grammar.specs.Bounds.{print-room}
 use Rattle.grammar.specs.Print.{printed}
 use Rattle.grammar.specs.Shape.{many-two}
@@ -31,11 +31,11 @@ unfolding bytesOf
 bytes-length e = packed-length (rows 0 e) (citations e) ∙ ap (λ (n : ℕ). headSize + rowSize * n + citeSize * count e + length (concat (citations e))) (rows-span 0 e)
 
 -- at most 511 nodes
-pub few-nodes : (e : Expr) → Fits e → span e ≤ 511
+pub few-nodes : (e : Expr) → Fits e → span e ≤ nodeLimit
 few-nodes e f = omega (arith, span-bound e (f .wide), f .few)
 
 -- at most 6,150 bytes
-pub few-bytes : (e : Expr) → Fits e → length (bytesOf e) ≤ 6150
+pub few-bytes : (e : Expr) → Fits e → length (bytesOf e) ≤ treeLimit
 few-bytes e f = omega (arith, bytes-length e, few-nodes e f, f .few, f .small)
 
 mutual

@@ -15,7 +15,7 @@ use Rattle.grammar.specs.Lex.{lex}
 use Rattle.grammar.specs.Print.{inTokens, print, printed}
 use Rattle.grammar.specs.Flat.{flat, citations-flat, wide-flat}
 use Rattle.grammar.specs.Readable.{Readable}
-use Rattle.grammar.specs.Reading.{shallow, reading, reading-given, Fits}
+use Rattle.grammar.specs.Reading.{shallow, reading, reading-given, Fits, nodeLimit, printLimit}
 use Rattle.grammar.specs.LexPrint.{print-lexed}
 use Rattle.grammar.specs.Bounds as bounds
 use Rattle.grammar.specs.PrintRead.{printed-read, alike}
@@ -23,7 +23,7 @@ use Rattle.grammar.specs.Status.{stated, statusReading}
 use Rattle.grammar.specs.StatusLaws.{status-states}
 use Rattle.grammar.specs.Never as never
 use Rattle.grammar.specs.Rows.{span}
-use Rattle.grammar.specs.Bytes.{headSize, rowSize, citeSize, bytesOf, isTree, treeOf}
+use Rattle.grammar.specs.Bytes.{headSize, rowSize, citeSize, bytesOf, isTree, treeOf, treeLimit}
 use Rattle.grammar.specs.Pack.{IsBytes}
 use Rattle.grammar.specs.Trees as trees
 use Rattle.grammar.specs.Sizes as sizes
@@ -40,7 +40,7 @@ flat-fits e f = record {
 }
 
 -- a print is at most 4,343 bytes long
-pub print-short : (e : Expr) → Fits e → length (printed e) ≤ 4343
+pub print-short : (e : Expr) → Fits e → length (printed e) ≤ printLimit
 print-short = bounds.print-short
 
 -- a print is at most 254 parentheses deep
@@ -64,11 +64,11 @@ pub bytes-length : (e : Expr) → length (bytesOf e) ≡ headSize + rowSize * sp
 bytes-length = sizes.bytes-length
 
 -- at most 511 nodes
-pub few-nodes : (e : Expr) → Fits e → span e ≤ 511
+pub few-nodes : (e : Expr) → Fits e → span e ≤ nodeLimit
 few-nodes = sizes.few-nodes
 
 -- at most 6,150 bytes
-pub few-bytes : (e : Expr) → Fits e → length (bytesOf e) ≤ 6150
+pub few-bytes : (e : Expr) → Fits e → length (bytesOf e) ≤ treeLimit
 few-bytes = sizes.few-bytes
 
 -- expressions with the same bytes are the same

@@ -4,7 +4,6 @@ use mathlib.Core.Path.{_≡_, refl, sym, ap, _∙_}
 use mathlib.Core.Bool.{Bool, true, false, cond, _&&_}
 use mathlib.Core.List.{List, [], _∷_, _++_, append-nil}
 use native.Mathlib.Omega.{arith}
-use lib.Dec.{eqb}
 use lib.ListN.{length, take, drop, length-drop}
 use Rattle.refusal.specs.Result.{refuse}
 use Rattle.refusal.specs.declared.Refusal.the-variants.{Unterminated, EmptyCondition}
@@ -15,7 +14,7 @@ use Rattle.grammar.specs.Lex.{cited, citeEnd, blank, also, inner, lex, inside}
 use Rattle.grammar.specs.Citable.{holds}
 use Rattle.grammar.specs.LexPrint.{inside-read, inside-open}
 use Rattle.lexer.specs.Runs.{leading, runEnd, upTo, fromOn}
-use Rattle.lexer.specs.State.{Ahead, Closing}
+use Rattle.lexer.specs.State.{Closing}
 use Rattle.lexer.proofs.Split.{char-size, size-cons, encode-none, passed}
 use Rattle.lexer.proofs.Runs.{upto-from, upto-free, from-head, upto-bytes}
 

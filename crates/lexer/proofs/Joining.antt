@@ -1,11 +1,11 @@
 -- The words of a text, the first of them, and the others joined. Assumes nothing.
 use Prim.Native.Nat.{ℕ, _+_, _-_, _≤_, _<_}
-use mathlib.Core.Path.{_≡_, refl, sym, ap, _∙_, subst}
+use mathlib.Core.Path.{_≡_, refl, sym, ap, _∙_}
 use mathlib.Core.Bool.{Bool, true, false, cond}
 use mathlib.Core.List.{List, [], _∷_, _++_, append-assoc, append-nil}
 use native.Mathlib.Omega.{arith}
 use lib.Dec.{eqb}
-use lib.ListN.{length, take, drop, set, length-append, length-drop}
+use lib.ListN.{length, take, drop, set, length-append}
 use lib.Seq.{append-snoc}
 use borrow.Author.Tests.{eq-eqb, ne-eqb, eqb-true, eqb-false}
 use Rattle.utf8.specs.Utf8.{isUtf8, decode, encode, encodeChar}
@@ -13,7 +13,7 @@ use Rattle.utf8.specs.White.{isWhite}
 use Rattle.grammar.specs.Lex.{blankChar}
 use Rattle.grammar.specs.Status.{ended, wordsFrom, words, spaced, joined}
 use Rattle.lexer.specs.Runs.{leading, trailing, runEnd, gap}
-use Rattle.lexer.proofs.Split.{encode-append, size-cons, char-size, encode-none, Passed, passed, some-left, none-left}
+use Rattle.lexer.proofs.Split.{encode-append, Passed, passed, some-left, none-left}
 use Rattle.lexer.proofs.Copies.{grown}
 use Rattle.lexer.proofs.Runs.{lead-trail, trail-stop, run-starts}
 

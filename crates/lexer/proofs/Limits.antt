@@ -11,7 +11,7 @@ use borrow.Author.Tests.{eq-eqb, ne-eqb, le-leb, lt-leb, lt-ltb, le-ltb, ltb-tru
 use Rattle.refusal.specs.Result.{Result, ok, refused, refuse, unless, map-ok, then}
 use Rattle.refusal.specs.declared.Refusal.{Refusal}
 use Rattle.refusal.specs.declared.Refusal.the-variants.{Empty, TooManyCitations, TooDeep}
-use Rattle.grammar.specs.Expr.{Op, And, Or, Xor, Expr, concat}
+use Rattle.grammar.specs.Expr.{Op, And, Or, Xor, concat}
 use Rattle.grammar.specs.Lex.{Tok, cited, op, opening, closing, lex, texts}
 use Rattle.grammar.specs.Rows.{opKind}
 use Rattle.grammar.specs.Parse.{parse}

@@ -1,18 +1,18 @@
 -- The token that a text begins with. Assumes nothing.
-use Prim.Native.Nat.{ℕ, _+_, _-_, _≤_, _<_}
+use Prim.Native.Nat.{ℕ, _+_, _-_, _<_}
 use mathlib.Core.Path.{_≡_, refl, sym, ap, _∙_}
 use mathlib.Core.Bool.{true}
 use mathlib.Core.List.{List, [], _∷_}
 use native.Mathlib.Omega.{arith}
-use lib.ListN.{length, take, drop, getD, length-drop}
+use lib.ListN.{length, drop, getD, length-drop}
 use Rattle.refusal.specs.Result.{Result, refuse}
 use Rattle.refusal.specs.declared.Refusal.{Refusal}
 use Rattle.refusal.specs.declared.Refusal.the-variants.{Stray}
 use Rattle.utf8.specs.Utf8.{isUtf8, decode, stepAt}
 use Rattle.utf8.specs.declared.Step.the-variants.{Char, Bad, End}
 use Rattle.utf8.proofs.Laws.{char-at, decode-at, step-bad, step-end}
-use Rattle.grammar.specs.Expr.{Op, And, Or, Xor}
-use Rattle.grammar.specs.Lex.{Tok, cited, op, opening, closing, Part, bracket, sign, left, right, space, stray, part, also, outer, lex, inside, texts}
+use Rattle.grammar.specs.Expr.{And, Or, Xor}
+use Rattle.grammar.specs.Lex.{Tok, op, opening, closing, Part, bracket, sign, left, right, space, stray, part, also, outer, lex, inside, texts}
 use Rattle.grammar.specs.Rows.{citeKind, opKind}
 use Rattle.lexer.specs.Tokens.{kindOf, partNumber}
 use Rattle.lexer.specs.State.{Ahead, Closing, Marked, Cites}

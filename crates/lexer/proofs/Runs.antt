@@ -1,9 +1,8 @@
 -- Runs of characters, and where they end. Assumes nothing.
 use Prim.Native.Nat.{ℕ, suc, _+_, _-_, _/_, _%_, _≤_, _<_}
 use mathlib.Core.Path.{_≡_, refl, sym, ap, _∙_}
-use mathlib.Core.Bool.{Bool, true, false, not, cond, _||_}
-use mathlib.Core.List.{List, [], _∷_, _++_, append-assoc}
-use mathlib.Core.Logic.{_⊎_, inl, inr}
+use mathlib.Core.Bool.{Bool, true, false, not}
+use mathlib.Core.List.{List, [], _∷_, _++_}
 use native.Mathlib.Omega.{arith}
 use native.Mathlib.Numerals.{add-one}
 use lib.Dec.{eqb, ltb}
@@ -11,10 +10,10 @@ use lib.ListN.{length, drop, getD, drop-of-length-le}
 use lib.Seq.{drop-cons}
 use borrow.Author.Tests.{eq-eqb, ne-eqb, eqb-true, eqb-false, ltb-false}
 use Rattle.laws.specs.Tests.{agree, cond-both}
-use Rattle.utf8.specs.Utf8.{isUtf8, decode, encode, encodeChar, stepAt}
+use Rattle.utf8.specs.Utf8.{decode, encode, encodeChar, stepAt}
 use Rattle.utf8.specs.White.{isWhite}
 use Rattle.utf8.specs.declared.Step.the-variants.{Char, Bad, End}
-use Rattle.utf8.proofs.Laws.{char-at, decode-at, decode-bad, step-end, decode-nil}
+use Rattle.utf8.proofs.Laws.{decode-at, decode-bad, step-end, decode-nil}
 use Rattle.utf8.proofs.Ascii.{ascii-at}
 use Rattle.utf8.proofs.White.{white-visible}
 use Rattle.grammar.specs.Lex.{blankChar}

@@ -1,8 +1,8 @@
 -- How lexing goes on from token to token. Assumes nothing.
-use Prim.Native.Nat.{ℕ, _+_, _-_, _*_, _/_, _%_, _≤_, _<_}
+use Prim.Native.Nat.{ℕ, _+_, _-_, _/_, _%_, _≤_, _<_}
 use mathlib.Core.Path.{_≡_, refl, sym, ap, _∙_, subst}
 use mathlib.Core.Bool.{Bool, true, false}
-use mathlib.Core.List.{List, [], _∷_, _++_, append-assoc, append-nil}
+use mathlib.Core.List.{List, [], _∷_, _++_, append-nil}
 use mathlib.Core.Logic.{_⊎_, inl, inr, ⊎-elim}
 use native.Mathlib.Omega.{arith}
 use lib.ListN.{length, take, drop, set, length-append, length-drop, length-set}
@@ -14,14 +14,14 @@ use Rattle.refusal.specs.declared.Refusal.{Refusal}
 use Rattle.refusal.specs.declared.Refusal.the-variants.{Empty, TooManyCitations, TooDeep}
 use Rattle.utf8.specs.Utf8.{isUtf8, decode}
 use Rattle.utf8.specs.Limits.{textLimit}
-use Rattle.grammar.specs.Expr.{Op, concat}
+use Rattle.grammar.specs.Expr.{concat}
 use Rattle.grammar.specs.Lex.{Tok, cited, op, opening, closing, also, lex, texts}
 use Rattle.grammar.specs.Rows.{citeKind}
 use Rattle.grammar.specs.Reading.{openLimit, someToken, few, shallow}
 use Rattle.grammar.specs.LexPrint.{before}
 use Rattle.grammar.specs.Bounds.{concat-append}
 use Rattle.lexer.specs.Tokens.{kindOf, kindsOf, deeper, depth, counted, lexedSaid, limited, tokenized, tokensOf, countsLimited, placed, cut, cuts}
-use Rattle.lexer.specs.State.{Ahead, Marked, Cites, State, Ends}
+use Rattle.lexer.specs.State.{Ahead, Marked, Cites, State}
 use Rattle.lexer.specs.declared.Count.{Count}
 use Rattle.lexer.specs.declared.Lexed.{Lexed}
 use Rattle.lexer.specs.declared.Lexed.the-variants.{Refused}

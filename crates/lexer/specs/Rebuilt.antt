@@ -5,7 +5,7 @@ use mathlib.Core.Bool.{cond}
 use mathlib.Core.List.{List, [], _∷_}
 use lib.Dec.{eqb}
 use lib.ListN.{getD, drop}
-use Rattle.grammar.specs.Expr.{Op, And, Or, Xor}
+use Rattle.grammar.specs.Expr.{And, Or, Xor}
 use Rattle.grammar.specs.Lex.{Tok, cited, op, opening, closing, texts}
 use Rattle.grammar.specs.Rows.{citeKind, opKind}
 use Rattle.lexer.specs.Tokens.{openKind, kindOf, kindsOf}

@@ -4,7 +4,7 @@ use mathlib.Core.Path.{_≡_}
 use mathlib.Core.Bool.{true}
 use mathlib.Core.List.{List, [], _∷_}
 use lib.ListN.{length, take, drop}
-use Rattle.refusal.specs.Result.{ok, refuse}
+use Rattle.refusal.specs.Result.{refuse}
 use Rattle.utf8.specs.Utf8.{isUtf8, decode}
 use Rattle.grammar.specs.Expr.{concat}
 use Rattle.grammar.specs.Lex.{Tok, cited, also, lex, inside, texts}

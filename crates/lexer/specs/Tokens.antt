@@ -1,13 +1,12 @@
 -- What the lexer answers and writes: counts, kinds of tokens, places of citations. Assumes nothing.
 use Prim.Native.Nat.{ℕ, suc, pred, _+_, _*_, _/_, _%_}
-use mathlib.Core.Path.{_≡_, refl, ap}
-use mathlib.Core.Bool.{Bool, cond, _&&_}
+use mathlib.Core.Bool.{cond, _&&_}
 use mathlib.Core.List.{List, [], _∷_}
 use lib.Dec.{eqb, leb, ltb}
 use lib.ListN.{length, take, drop}
 use Rattle.refusal.specs.Result.{Result, ok, refused, refuse, unless, then}
 use Rattle.refusal.specs.declared.Refusal.the-variants.{Empty, TooManyCitations, TooDeep}
-use Rattle.grammar.specs.Expr.{Op, And, Or, Xor, concat}
+use Rattle.grammar.specs.Expr.{concat}
 use Rattle.grammar.specs.Lex.{Tok, cited, op, opening, closing, Part, bracket, sign, left, right, space, stray, lex, texts}
 use Rattle.grammar.specs.Rows.{citeKind, opKind}
 use Rattle.grammar.specs.Reading.{citationLimit, citedLimit, openLimit, someToken, few, shallow}

@@ -1,11 +1,11 @@
 -- What the answers of reading, printing, packages and verdicts mean for the lines. Assumes nothing.
 use mathlib.Core.Path.{_≡_, refl, sym, ap, _∙_, subst}
-use mathlib.Core.List.{List, [], _∷_, _++_}
-use mathlib.Core.Bool.{true, false}
+use mathlib.Core.List.{List, _++_}
+use mathlib.Core.Bool.{true}
 use Prim.Native.Nat.{ℕ, _+_, _*_, _≤_, _<_}
 use native.Mathlib.Omega.{arith}
-use lib.ListN.{length, take, drop, length-append, length-take}
-use lib.Seq.{take-append-seam, drop-append-seam}
+use lib.ListN.{length, take, drop, length-append}
+use lib.Seq.{take-append-seam}
 use Rattle.refusal.specs.Result.{Result, ok, refused, refuse, unless, then, map-ok, refused≢ok, unless-ok}
 use Rattle.refusal.specs.Refusals.{numberOf}
 use Rattle.refusal.specs.declared.Refusal.{Refusal}
@@ -16,15 +16,15 @@ use Rattle.citation.specs.declared.Truth.{Truth}
 use Rattle.status.specs.declared.StatusKind.{StatusKind}
 use Rattle.grammar.specs.Expr.{Expr, citations, count, concat}
 use Rattle.grammar.specs.Print.{printed}
-use Rattle.grammar.specs.Reading.{citationLimit, Fits}
+use Rattle.grammar.specs.Reading.{citationLimit, Fits, printLimit}
 use Rattle.grammar.specs.Status.{Stated, alone, stated, statusReading}
-use Rattle.grammar.specs.Bytes.{cites, textsIn, isTree, treeAt, treeOf, bytesOf}
+use Rattle.grammar.specs.Bytes.{cites, textsIn, isTree, treeAt, bytesOf, treeLimit}
 use Rattle.grammar.specs.Theorems.{afterStatus, read-fits, print-short, few-bytes, is-tree, tree-of-bytes}
-use Rattle.grammar.specs.Outcome.{Written, Outcome, answerOf, writtenOf, withLength, displayAnswer, StatusSaid, wordAlone, withTree, withStatus, statedBytes, statusAnswer, answer-fits, written-fits, answer-short, written-short}
+use Rattle.grammar.specs.Outcome.{Written, Outcome, answerOf, writtenOf, withLength, displayAnswer, wordAlone, withTree, statedBytes, statusAnswer, answer-fits, written-fits, answer-short, written-short}
 use Rattle.semantics.specs.Presence.{answersFit}
 use Rattle.semantics.specs.Truth.{truth}
 use Rattle.semantics.specs.Violations.{violations, numberBytes}
-use Rattle.semantics.specs.Packages.{paketSize, pakete, rowsOf}
+use Rattle.semantics.specs.Packages.{paketSize, pakete}
 use Rattle.semantics.specs.Sizes.{numbers-length, rows-length}
 use Rattle.semantics.specs.Answers.{presenceBy, numbered, rowed, paketeAnswer, violationsAnswer, evalAndTruthAnswer}
 use Rattle.fields.specs.Appended.{Appended}
@@ -34,23 +34,20 @@ use Rattle.presence.proofs.Answers.{fit-count}
 use Rattle.verdicts.proofs.Laws.{both-unfit}
 use Rattle.printer.specs.Said.{displaySaid}
 use Rattle.printer.specs.declared.Displayed.{Displayed}
-use Rattle.printer.specs.declared.Displayed.the-variants as display
 use Rattle.packages.specs.Said.{paketeSaid}
 use Rattle.packages.specs.declared.PaketeAnswer.{PaketeAnswer}
-use Rattle.packages.specs.declared.PaketeAnswer.the-variants as rows
-use Rattle.verdicts.specs.Said.{violationsSaid, bothSaid}
+use Rattle.verdicts.specs.Said.{violationsSaid}
 use Rattle.verdicts.specs.declared.ViolationsAnswer.{ViolationsAnswer}
-use Rattle.verdicts.specs.declared.ViolationsAnswer.the-variants as counts
 use Rattle.verdicts.specs.declared.BothAnswer.{BothAnswer}
 use Rattle.verdicts.specs.declared.BothAnswer.the-variants as both
 use Rattle.reader.specs.Said.{statusSaid}
 use Rattle.reader.specs.declared.StatusAnswer.{StatusAnswer}
 use Rattle.reader.specs.declared.StatusAnswer.the-variants as status
-use Rattle.line.specs.Sizes.{longestTree, longestPrint, longestRows, longestList, longestNamed}
+use Rattle.line.specs.Sizes.{longestRows, longestList, longestNamed}
 use Rattle.line.specs.Lines.{answerBytes, figures, named, line, aloneLines, treeLines, judgedLines, statedLines, shown, lines, reportAnswer}
 use Rattle.line.specs.Parts.{numbersFrom, AllBelow, Admitted}
 use Rattle.line.proofs.Texts.{answers-length, inside}
-use Rattle.line.proofs.Named.{numbers-got, Listed, listed}
+use Rattle.line.proofs.Named.{numbers-got, listed}
 
 module _ {A : Type 0} where
   -- the answer of a call whose result has room
@@ -86,8 +83,8 @@ module _ (b : List ℕ) (tree : isTree b ≡ true) where
 
   module _ (old new : List ℕ) where
     -- the print
-    pub printed-into : (o : Displayed) → longestPrint ≤ length old → displaySaid o ≡ answerOf (displayAnswer b) (length old) → new ≡ writtenOf (displayAnswer b) old
-        → (displaySaid o ≡ ok (length (printed e))) × ((n : ℕ) → n ≡ length (printed e) → (n ≤ longestPrint) × (take n new ≡ printed e))
+    pub printed-into : (o : Displayed) → printLimit ≤ length old → displaySaid o ≡ answerOf (displayAnswer b) (length old) → new ≡ writtenOf (displayAnswer b) old
+        → (displaySaid o ≡ ok (length (printed e))) × ((n : ℕ) → n ≡ length (printed e) → (n ≤ printLimit) × (take n new ≡ printed e))
     printed-into o room f g =
         let short = print-short e (root b tree .fits) in
         let s = settled (displayAnswer b) (withLength (printed e)) old new (displaySaid o) display-is (omega (arith, short)) f g in
@@ -162,7 +159,7 @@ too-many b answers value h l =
     let r = root b h in
     sym (both-unfit b (answerBytes answers) value h (sym (fit-count b (answerBytes answers) h (λ q. omega (arith, q, l, answers-length answers, r .counts, r .fits .few)))))
 
-module _ (s a v old new : List ℕ) (o : StatusAnswer) (room : longestTree ≤ length old) (f : statusSaid o ≡ answerOf (statusAnswer s) (length old)) (g : new ≡ writtenOf (statusAnswer s) old) where
+module _ (s a v old new : List ℕ) (o : StatusAnswer) (room : treeLimit ≤ length old) (f : statusSaid o ≡ answerOf (statusAnswer s) (length old)) (g : new ≡ writtenOf (statusAnswer s) old) where
   -- the answer and the lines, by what the status reads as
   abbrev Meets : Result Stated → Type 0
   Meets (refused j) = (statusSaid o ≡ refused j) × (lines s a v ≡ line "refused " (figures j))

@@ -5,7 +5,7 @@ use Prim.Native.Nat.{ℕ, suc, _+_, _/_, _%_, _≤_, _<_}
 use Prim.Native.String.{String}
 use native.Mathlib.Numerals.{add-one}
 use native.Mathlib.Omega.{arith}
-use lib.ListN.{length, getD, take, drop, set, length-append, length-take}
+use lib.ListN.{length, getD, take, set, length-take}
 use lib.Seq.{take-suc, take-suc-set, take-all}
 use borrow.Author.Tests.{ne-eqb, lt-ltb, le-ltb}
 use Rattle.utf8.specs.Utf8.{encodeChar}

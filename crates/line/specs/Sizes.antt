@@ -2,8 +2,8 @@
 use mathlib.Core.Path.{_≡_, refl}
 use Prim.Native.Nat.{ℕ, _+_, _-_, _*_}
 use Rattle.utf8.specs.Limits.{textLimit, valueLimit}
-use Rattle.grammar.specs.Reading.{citationLimit, citedLimit}
-use Rattle.grammar.specs.Bytes.{headSize, rowSize, citeSize}
+use Rattle.grammar.specs.Reading.{citationLimit, citedLimit, printLimit}
+use Rattle.grammar.specs.Bytes.{treeLimit}
 use Rattle.semantics.specs.Packages.{paketSize}
 
 -- the longest status word
@@ -17,14 +17,6 @@ longestTruth = 7
 -- the longest number, in digits
 abbrev pub longestNumber : ℕ
 longestNumber = 3
-
--- the longest tree: header, node rows, fewer than twice the citations, citation rows, texts
-abbrev pub longestTree : ℕ
-longestTree = headSize + rowSize * (2 * citationLimit - 1) + citeSize * citationLimit + citedLimit
-
--- the longest print: the texts, and for each citation but one nine bytes of brackets, parentheses and signs
-abbrev pub longestPrint : ℕ
-longestPrint = citedLimit + 9 * (citationLimit - 1)
 
 -- the longest package rows: one for each citation
 abbrev pub longestRows : ℕ
@@ -48,7 +40,7 @@ longestStatusLine = lineSize 6 longestWord
 
 -- `tree` and a print
 abbrev pub longestTreeLine : ℕ
-longestTreeLine = lineSize 4 longestPrint
+longestTreeLine = lineSize 4 printLimit
 
 -- `presence` and a truth
 abbrev pub longestPresenceLine : ℕ
@@ -83,5 +75,5 @@ abbrev pub keptValue : ℕ
 keptValue = valueLimit + 1
 
 -- as numbers: the values of the constants in the code
-pub sizes : (longestTree ≡ 6150) × (longestPrint ≡ 4343) × (longestRows ≡ 4864) × (longestList ≡ 512) × (longestReport ≡ 6708) × (keptStatus ≡ 4401) × (keptAnswers ≡ 257) × (keptValue ≡ 1025)
+pub sizes : (treeLimit ≡ 6150) × (printLimit ≡ 4343) × (longestRows ≡ 4864) × (longestList ≡ 512) × (longestReport ≡ 6708) × (keptStatus ≡ 4401) × (keptAnswers ≡ 257) × (keptValue ≡ 1025)
 sizes = (refl, refl, refl, refl, refl, refl, refl, refl)

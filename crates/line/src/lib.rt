@@ -13,6 +13,8 @@ use reader::StatusAnswer;
 use refusal::Refusal;
 use status::StatusKind;
 use text::head;
+use tree::CITATION_LIMIT;
+use tree::TREE_LIMIT;
 use tree::text_at;
 use verdicts::BothAnswer;
 use verdicts::ViolationsAnswer;
@@ -20,15 +22,15 @@ use verdicts::eval_and_truth;
 use verdicts::violations;
 ghost use mathlib.Core.Path.{_≡_};
 ghost use mathlib.Core.Bool.{true};
-ghost use mathlib.Core.List.{_∷_, []};
+ghost use mathlib.Core.List.{_∷_};
 ghost use Prim.Native.Nat.{_+_, _*_, _≤_, _<_};
 ghost use lib.ListN.{length, take};
 ghost use Rattle.refusal.specs.Refusals.{numberOf};
 ghost use Rattle.status.specs.Status.{wordOf};
 ghost use Rattle.grammar.specs.Lex.{blankChar};
 ghost use Rattle.grammar.specs.Print.{printed};
-ghost use Rattle.grammar.specs.Reading.{citationLimit};
-ghost use Rattle.grammar.specs.Bytes.{cites, textsIn, isTree, treeAt};
+ghost use Rattle.grammar.specs.Reading.{citationLimit, printLimit};
+ghost use Rattle.grammar.specs.Bytes.{cites, textsIn, isTree, treeAt, treeLimit};
 ghost use Rattle.grammar.specs.Outcome.{answerOf, writtenOf};
 ghost use Rattle.semantics.specs.Violations as violated;
 ghost use Rattle.semantics.specs.Packages as packages;
@@ -37,7 +39,7 @@ ghost use Rattle.tree.specs.Walk.{textAt};
 ghost use Rattle.line.specs.Lines.{answerByte, answerBytes, figure, figures, truthName, named, line, aloneLines, formatSaid, treeLines, judgedLines, shown, lines, reportAnswer};
 ghost use Rattle.line.specs.Said.{reportSaid};
 ghost use Rattle.line.specs.Input.{longer, nextRow, fed, fedAll, keptIn, Buffers, noneHeld};
-ghost use Rattle.line.specs.Sizes.{longestWord, longestTruth, longestNumber, longestTree, longestPrint, longestRows, longestList, longestStatusLine, longestTreeLine, longestPresenceLine, longestPaketeLine, longestFormatLine, longestRefusedLine, longestReport};
+ghost use Rattle.line.specs.Sizes.{longestWord, longestTruth, longestNumber, longestRows, longestList, longestStatusLine, longestTreeLine, longestPresenceLine, longestPaketeLine, longestFormatLine, longestRefusedLine, longestReport};
 ghost use Rattle.line.specs.Parts.{Within, numbersFrom, AllBelow, Admitted};
 
 // What decides of the three lines: one byte more than is admitted, and one letter more than there can be citations.
@@ -47,11 +49,7 @@ pub const ANSWERS_KEPT: usize = 257;
 
 pub const VALUE_KEPT: usize = 1025;
 
-// The most answer letters that are right for some tree, and the sizes of the scratch: a tree, all numbers of citations, all package rows, all lines.
-const ANSWER_LIMIT: usize = 256;
-
-const TREE_SIZE: usize = 6150;
-
+// The sizes of the scratch: all numbers of citations, all package rows, all lines.
 const LIST_SIZE: usize = 512;
 
 const ROWS_SIZE: usize = 4864;
@@ -174,8 +172,8 @@ fn status_line(kind: StatusKind, out: &mut [u8], at: usize) -> usize
 
 // The print of a tree, at the start of a scratch.
 fn print_into(tree: &[u8], scratch: &mut [u8]) -> usize
-    requires { ⌜ (isTree (now tree) ≡ true) × (longestPrint ≤ length (now scratch)) ⌝ }
-    ensures { λ r. ⌜ (r ≤ longestPrint) × (take r (now (scratch .exit)) ≡ printed (treeAt (now (tree .entry)) 0)) ⌝ }
+    requires { ⌜ (isTree (now tree) ≡ true) × (printLimit ≤ length (now scratch)) ⌝ }
+    ensures { λ r. ⌜ (r ≤ printLimit) × (take r (now (scratch .exit)) ≡ printed (treeAt (now (tree .entry)) 0)) ⌝ }
 {
     match display(tree, scratch) {
         Displayed::Done(n) => n,
@@ -342,10 +340,10 @@ fn answered_lines(
     requires { ⌜ (isTree (now tree) ≡ true) × (longestReport ≤ length (now out)) ⌝ }
     ensures { λ r. ⌜ Appended (shown (judgedLines kind (now (tree .entry)) (treeAt (now (tree .entry)) 0) (answerBytes (now (answers .entry))) (now (value .entry)))) 0 (now (out .entry)) (now (out .exit)) r ⌝ }
 {
-    if ANSWER_LIMIT < answers.len() {
+    if CITATION_LIMIT < answers.len() {
         return refused_line(Refusal::WrongAnswers, out);
     }
-    let mut codes = [0u8; ANSWER_LIMIT];
+    let mut codes = [0u8; CITATION_LIMIT];
     lettered_lines(kind, tree, answers, &mut codes, value, out)
 }
 
@@ -357,7 +355,7 @@ fn write_lines(
     tree: &mut [u8],
     out: &mut [u8],
 ) -> usize
-    requires { ⌜ (longestTree ≤ length (now tree)) × (longestReport ≤ length (now out)) ⌝ }
+    requires { ⌜ (treeLimit ≤ length (now tree)) × (longestReport ≤ length (now out)) ⌝ }
     ensures { λ r. ⌜ Appended (lines (now (status .entry)) (now (answers .entry)) (now (value .entry))) 0 (now (out .entry)) (now (out .exit)) r ⌝ }
 {
     match Status::parse(status, tree) {
@@ -374,7 +372,7 @@ pub fn report(status: &[u8], answers: &[u8], value: &[u8], out: &mut [u8]) -> Re
     ensures { λ r. ⌜ reportSaid r ≡ answerOf (reportAnswer (now (status .entry)) (now (answers .entry)) (now (value .entry))) (length (now (out .entry))) ⌝ }
     ensures { λ _. ⌜ now (out .exit) ≡ writtenOf (reportAnswer (now (status .entry)) (now (answers .entry)) (now (value .entry))) (now (out .entry)) ⌝ }
 {
-    let mut tree = [0u8; TREE_SIZE];
+    let mut tree = [0u8; TREE_LIMIT];
     let mut text = [0u8; LINES_SIZE];
     let n = write_lines(status, answers, value, &mut tree, &mut text);
     if out.len() < n {
@@ -493,7 +491,7 @@ pub fn report_held(held: Held, status: &[u8], answers: &[u8], value: &[u8], out:
     let first = held.status;
     let second = held.answers;
     let third = held.value;
-    let mut tree = [0u8; TREE_SIZE];
+    let mut tree = [0u8; TREE_LIMIT];
     write_lines(
         head(status, first),
         head(answers, second),

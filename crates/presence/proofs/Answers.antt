@@ -18,6 +18,7 @@ use Rattle.tree.specs.Walk.{firstAt}
 use Rattle.tree.proofs.Walks.{root, no-tree}
 use Rattle.semantics.specs.Presence.{failed, presence, answered, oracleOf, answersFit}
 use Rattle.semantics.specs.Answers.{presenceBy, evalAnswer}
+use Rattle.grammar.specs.Reading.{nodeLimit}
 
 getD-any : (l : List ℕ) (n d d′ : ℕ) → n < length l → getD l n d ≡ getD l n d′
 getD-any [] n d d′ h = absurd (omega arith)
@@ -52,7 +53,7 @@ fit-long b answers h k =
     omega (arith, eqb-true (length answers) (count (treeAt b 0)) (t .0), root b h .counts)
 
 -- at most 511 rows, at least one
-pub few-rows : (b : List ℕ) → isTree b ≡ true → (nodes b ≤ 511) × (0 < nodes b)
+pub few-rows : (b : List ℕ) → isTree b ≡ true → (nodes b ≤ nodeLimit) × (0 < nodes b)
 few-rows b h = let r = root b h in (omega (arith, r .size, few-nodes (treeAt b 0) (r .fits)), r .some)
 
 -- the whole tree's presence

@@ -2,6 +2,7 @@
 use citation::ConditionKind;
 use citation::Truth;
 use refusal::Refusal;
+use tree::NODE_LIMIT;
 use tree::cite_count;
 use tree::is_tree;
 use tree::kind_at;
@@ -10,9 +11,9 @@ use tree::number_at;
 use tree::size_at;
 use tree::text_at;
 ghost use mathlib.Core.Path.{_≡_};
-ghost use mathlib.Core.Bool.{Bool, true, false, _&&_, _||_};
+ghost use mathlib.Core.Bool.{true, false, _&&_, _||_};
 ghost use Prim.Native.Nat.{_+_, _≤_, _<_};
-ghost use lib.Dec.{eqb, leb, ltb};
+ghost use lib.Dec.{eqb, leb};
 ghost use lib.ListN.{length};
 ghost use Rattle.text.specs.Bytes.{all};
 ghost use Rattle.grammar.specs.Expr.{citations};
@@ -24,9 +25,6 @@ ghost use Rattle.semantics.specs.Answers.{presenceBy, evalAnswer};
 ghost use Rattle.presence.specs.Said.{evalSaid};
 ghost use Rattle.presence.specs.Marks.{markOfKind, larger, markOf, choosing, choiceAmong, Marked, Ready};
 ghost use Rattle.presence.specs.Tallies.{noTally, added, anded, ored, xored, ruled};
-
-// The most node rows that a tree has.
-const NODE_LIMIT: usize = 511;
 
 // So many rows are few.
 const FEW_ROWS: usize = 32;

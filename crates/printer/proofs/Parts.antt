@@ -1,14 +1,13 @@
 -- Signs and parentheses. Assumes nothing.
-use mathlib.Core.Path.{_≡_, refl, ap}
-use mathlib.Core.List.{List, [], _∷_}
+use mathlib.Core.Path.{_≡_, refl}
+use mathlib.Core.List.{[], _∷_}
 use Prim.Native.Nat.{ℕ, _≤_, _<_}
-use lib.ListN.{length}
 use borrow.Author.Tests.{lt-ltb, le-ltb}
 use Rattle.utf8.specs.Utf8.{encodeChar}
-use Rattle.grammar.specs.Expr.{Op, And, Or, Xor}
+use Rattle.grammar.specs.Expr.{And, Or, Xor}
 use Rattle.grammar.specs.Lex.{symbol}
 use Rattle.grammar.specs.Print.{inBytes, signBytes}
-use Rattle.printer.specs.Parts.{separator, separatorAfter, leftOf, rightOf}
+use Rattle.printer.specs.Parts.{leftOf, rightOf}
 
 -- the bytes of ` ∧ `
 pub and-sign : inBytes .sign And ≡ 0x20 ∷ 0xE2 ∷ 0x88 ∷ 0xA7 ∷ 0x20 ∷ []

@@ -1,5 +1,5 @@
 -- The print of a node, child by child. Assumes nothing.
-use mathlib.Core.Path.{_≡_, refl, sym, ap, _∙_, subst}
+use mathlib.Core.Path.{_≡_, refl, sym, ap, _∙_}
 use mathlib.Core.List.{List, [], _∷_, _++_, append-assoc, append-nil}
 use mathlib.Core.Bool.{Bool, true, false}
 use Prim.Native.Nat.{ℕ, zero, suc, _+_, _-_, _≤_, _<_}
@@ -10,13 +10,13 @@ use store.Seg.{eqb-same}
 use borrow.Author.Tests.{ne-eqb}
 use Rattle.fields.specs.Appended.{Appended}
 use Rattle.fields.proofs.Appends as appends
-use Rattle.grammar.specs.Expr.{And, Or, Xor, Expr, Exprs, cite, Then, join, none, more, _◂_, _⧺_}
+use Rattle.grammar.specs.Expr.{And, Or, Xor, Expr, Exprs, cite, Then, join, none, _◂_}
 use Rattle.grammar.specs.Lex.{citeEnd}
 use Rattle.grammar.specs.Print.{inBytes, printed, print, listed, links, bracketed, operand}
 use Rattle.grammar.specs.Rows.{opKind, span, firsts, children}
 use Rattle.grammar.specs.Bytes.{nodes, cites, isTree, forestAt, treeAt}
 use Rattle.tree.specs.Walk.{nodeKind, numberAt, textAt}
-use Rattle.tree.proofs.Walks.{Walk, Next, Leaf, leaf, children-at, walk-begins, walk-next, kind-small}
+use Rattle.tree.proofs.Walks.{Walk, Next, leaf, children-at, walk-begins, walk-next, kind-small}
 use Rattle.printer.specs.Parts.{separator, separatorAfter, leftOf, rightOf}
 
 -- the operands with a separator between them, or before each

@@ -1,5 +1,5 @@
 -- The answer of `display` and the lent bytes. Assumes nothing.
-use mathlib.Core.Path.{_≡_, refl, sym, ap, _∙_}
+use mathlib.Core.Path.{_≡_, sym, ap, _∙_}
 use mathlib.Core.List.{List, _++_}
 use mathlib.Core.Bool.{true, false}
 use Prim.Native.Nat.{ℕ, _≤_, _<_, _+_}
@@ -9,16 +9,17 @@ use Rattle.refusal.specs.Result.{ok, refuse, map-ok, then}
 use Rattle.refusal.specs.declared.Refusal.the-variants.{NotATree, NoRoom}
 use Rattle.grammar.specs.Print.{printed}
 use Rattle.grammar.specs.Expr.{concat}
-use Rattle.grammar.specs.Bytes.{isTree, treeAt, cites, citesAt, textsAt, textsIn}
+use Rattle.grammar.specs.Bytes.{isTree, treeAt, cites, citesAt, textsAt}
 use Rattle.grammar.specs.Outcome.{answerOf, writtenOf, withLength, displayAnswer, answer-fits, answer-short, written-fits, written-short}
 use Rattle.grammar.specs.Theorems.{print-short, bytes-length}
 use Rattle.grammar.specs.Sizes.{print-within}
 use Rattle.grammar.specs.Trees.{tests}
 use Rattle.tree.proofs.Cites.{texts-stand}
 use Rattle.tree.proofs.Walks.{root, no-tree}
+use Rattle.grammar.specs.Reading.{printLimit}
 
 -- a print is short enough for the scratch
-pub short : (b : List ℕ) → isTree b ≡ true → length (printed (treeAt b 0)) ≤ 4343
+pub short : (b : List ℕ) → isTree b ≡ true → length (printed (treeAt b 0)) ≤ printLimit
 short b h = print-short (treeAt b 0) (root b h .fits)
 
 -- a print is no longer than its tree

@@ -1,7 +1,7 @@
 -- Byte strings as fields of a line: two lower-case hex digits a byte, `-` for no bytes. Assumes nothing.
 use Prim.Native.Nat.{ℕ, _+_, _-_, _*_, _/_, _%_}
 use mathlib.Core.List.{List, [], _∷_}
-use mathlib.Core.Bool.{Bool, true, false, cond, _&&_}
+use mathlib.Core.Bool.{Bool, cond, _&&_}
 use lib.ListN.{length, take}
 use lib.Dec.{ltb, eqb}
 use Rattle.text.specs.Bytes.{same}

@@ -16,7 +16,7 @@ use Rattle.grammar.specs.Expr.{Expr, concat, citations}
 use Rattle.grammar.specs.Rows.{rows}
 use Rattle.grammar.specs.Bytes.{bytesOf}
 use Rattle.grammar.specs.Bytes as bytes
-use Rattle.grammar.specs.Reading.{expression, reading}
+use Rattle.grammar.specs.Reading.{expression, reading, nodeLimit, citationLimit, citedLimit}
 use Rattle.grammar.specs.Outcome.{answerOf, writtenOf, withLength, parseAnswer, answer-fits, answer-short, written-fits, written-short}
 use Rattle.grammar.specs.Theorems.{bytes-length, few-nodes}
 use Rattle.fields.specs.Appended.{Appended}
@@ -48,7 +48,7 @@ module _ (s places held : List ℕ) (n c t : ℕ) (m : Stands s places held n c 
   sized = omega (arith, bytes-length e, m .nodes, m .cites, m .bytes)
 
   -- it is small
-  pub small : (n ≤ 511) × (c ≤ 256) × (t ≤ 2048)
+  pub small : (n ≤ nodeLimit) × (c ≤ citationLimit) × (t ≤ citedLimit)
   small = (omega (arith, few-nodes e (m .fits), m .nodes), omega (arith, m .fits .few, m .cites), omega (arith, m .fits .small, m .bytes))
 
   -- the texts that are written

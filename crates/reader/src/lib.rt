@@ -5,6 +5,8 @@ use refusal::Refusal;
 use status::StatusKind;
 use status::WordAnswer;
 use text::between;
+use tree::CITATION_LIMIT;
+use tree::NODE_LIMIT;
 use utf8::Admitted;
 use utf8::TEXT_LIMIT;
 ghost use mathlib.Core.Path.{_≡_};
@@ -19,10 +21,14 @@ ghost use Rattle.grammar.specs.Outcome.{answerOf, writtenOf, parseAnswer, statu
 ghost use Rattle.reader.specs.Said.{parseSaid, treeOutcome, statusSaid, statusOutcome};
 ghost use Rattle.reader.specs.Made.{Room, Made};
 
-// Texts of so many bytes are read in a scratch that is small.
+// Texts of so many bytes are read in a scratch that is small: they have no more tokens, and fewer than twice as many nodes.
 const SHORT: usize = 32;
 
+const SHORT_NODES: usize = 63;
+
 const MEDIUM: usize = 128;
+
+const MEDIUM_NODES: usize = 255;
 
 // The length of the tree that was written, or why there is none.
 pub enum ParseAnswer {
@@ -114,10 +120,10 @@ fn read_short(text: &[u8], out: &mut [u8]) -> ParseAnswer
     ensures { λ r. ⌜ parseSaid r ≡ answerOf (treeOutcome (expression (decode (now (text .entry))))) (length (now (out .entry))) ⌝ }
     ensures { λ _. ⌜ now (out .exit) ≡ writtenOf (treeOutcome (expression (decode (now (text .entry))))) (now (out .entry)) ⌝ }
 {
-    let mut kinds = [0u8; 32];
-    let mut places = [0u32; 32];
-    let mut work = [0u64; 63];
-    let mut rows = [0u64; 63];
+    let mut kinds = [0u8; SHORT];
+    let mut places = [0u32; SHORT];
+    let mut work = [0u64; SHORT_NODES];
+    let mut rows = [0u64; SHORT_NODES];
     read(text, &mut kinds, &mut places, &mut work, &mut rows, out)
 }
 
@@ -127,10 +133,10 @@ fn read_medium(text: &[u8], out: &mut [u8]) -> ParseAnswer
     ensures { λ r. ⌜ parseSaid r ≡ answerOf (treeOutcome (expression (decode (now (text .entry))))) (length (now (out .entry))) ⌝ }
     ensures { λ _. ⌜ now (out .exit) ≡ writtenOf (treeOutcome (expression (decode (now (text .entry))))) (now (out .entry)) ⌝ }
 {
-    let mut kinds = [0u8; 128];
-    let mut places = [0u32; 128];
-    let mut work = [0u64; 255];
-    let mut rows = [0u64; 255];
+    let mut kinds = [0u8; MEDIUM];
+    let mut places = [0u32; MEDIUM];
+    let mut work = [0u64; MEDIUM_NODES];
+    let mut rows = [0u64; MEDIUM_NODES];
     read(text, &mut kinds, &mut places, &mut work, &mut rows, out)
 }
 
@@ -140,10 +146,10 @@ fn read_long(text: &[u8], out: &mut [u8]) -> ParseAnswer
     ensures { λ r. ⌜ parseSaid r ≡ answerOf (treeOutcome (expression (decode (now (text .entry))))) (length (now (out .entry))) ⌝ }
     ensures { λ _. ⌜ now (out .exit) ≡ writtenOf (treeOutcome (expression (decode (now (text .entry))))) (now (out .entry)) ⌝ }
 {
-    let mut kinds = [0u8; 4400];
-    let mut places = [0u32; 256];
-    let mut work = [0u64; 511];
-    let mut rows = [0u64; 511];
+    let mut kinds = [0u8; TEXT_LIMIT];
+    let mut places = [0u32; CITATION_LIMIT];
+    let mut work = [0u64; NODE_LIMIT];
+    let mut rows = [0u64; NODE_LIMIT];
     read(text, &mut kinds, &mut places, &mut work, &mut rows, out)
 }
 
@@ -222,10 +228,10 @@ fn scan_status(text: &[u8], out: &mut [u8]) -> StatusAnswer
     ensures { λ _. ⌜ now (out .exit) ≡ writtenOf (statusOutcome (ofWords (words (decode (now (text .entry)))))) (now (out .entry)) ⌝ }
 {
     if text.len() <= MEDIUM {
-        let mut joined = [0u8; 128];
+        let mut joined = [0u8; MEDIUM];
         return read_status(text, &mut joined, out);
     }
-    let mut joined = [0u8; 4400];
+    let mut joined = [0u8; TEXT_LIMIT];
     read_status(text, &mut joined, out)
 }
 

@@ -1,5 +1,4 @@
 // The answers to request lines: which function a line asks, its fields, and the words of the answer.
-ghost use mathlib.Core.Path.{_≡_};
 ghost use Prim.Native.Nat.{_+_, _*_, _≤_, _<_};
 ghost use lib.ListN.{length};
 ghost use Rattle.requests.specs.Rooms.{HasRoom, Asked, Ready};
@@ -20,6 +19,7 @@ use reader::ParseAnswer;
 use reader::Status;
 use reader::StatusAnswer;
 use refusal::Refusal;
+use tree::CITATION_LIMIT;
 use tree::CitedText;
 use verdicts::TruthAnswer;
 use verdicts::ViolationsAnswer;
@@ -32,9 +32,6 @@ pub const BYTES: usize = 32768;
 
 // The longest answer, some words and the digits of the longest field.
 pub const ROOM: usize = 65600;
-
-// The most citations.
-const CITATIONS: usize = 256;
 
 fn decimal(out: &mut [u8], at: usize, n: u64) -> usize
     requires { ⌜ at + 20 ≤ length (now out) ⌝ }
@@ -432,7 +429,7 @@ fn cited_into(tree: &[u8], out: &mut [u8]) -> usize
 {
     let mut at = 0;
     let mut n = 0;
-    while n < CITATIONS {
+    while n < CITATION_LIMIT {
         match tree::cited(tree, n) {
             CitedText::Refused(why) => {
                 return refused(out, why);

@@ -19,9 +19,9 @@ use Rattle.citation.specs.Truths.{truthNumber}
 use Rattle.grammar.specs.Expr.{Expr, citations}
 use Rattle.grammar.specs.Lex.{lex}
 use Rattle.grammar.specs.Print.{inTokens, print, printed}
-use Rattle.grammar.specs.Reading.{shallow}
+use Rattle.grammar.specs.Reading.{shallow, nodeLimit, printLimit}
 use Rattle.grammar.specs.Rows.{span}
-use Rattle.grammar.specs.Bytes.{bytesOf, isTree, treeAt, treeOf}
+use Rattle.grammar.specs.Bytes.{bytesOf, isTree, treeAt, treeOf, treeLimit}
 use Rattle.grammar.specs.Pack.{IsBytes}
 use Rattle.grammar.specs.Theorems as grammar
 use Rattle.semantics.specs.Rules.{isUnknown, isNeutral}
@@ -36,9 +36,9 @@ use Rattle.semantics.specs.Answers.{presenceBy, evalAnswer, truthAnswer}
 
 -- the sizes of a tree, and of its print
 pub record Small (b : List ℕ) (e : Expr) : Type 0 where
-  pub nodes : span e ≤ 511
-  pub bytes : length b ≤ 6150
-  pub print-bytes : length (printed e) ≤ 4343
+  pub nodes : span e ≤ nodeLimit
+  pub bytes : length b ≤ treeLimit
+  pub print-bytes : length (printed e) ≤ printLimit
   pub print-tokens : lex (decode (printed e)) ≡ ok (print inTokens e)
   pub print-deep : shallow 254 0 (print inTokens e) ≡ true
 
@@ -55,6 +55,10 @@ tree-small b i e h =
       print-tokens = s .0;
       print-deep = s .1;
     }
+
+-- these bounds in document 01's numbers
+pub small-numbers : (nodeLimit ≡ 511) × (treeLimit ≡ 6150) × (printLimit ≡ 4343)
+small-numbers = (refl, refl, refl)
 
 -- another answer from 0 to 4 at a dropped citation changes nothing
 pub dropped-free : (tree answers : List ℕ) (e : Expr) (k x : ℕ) → treeOf tree ≡ ok e → answersFit e answers ≡ true

@@ -1,17 +1,16 @@
 -- What `cited` answers, and that the text stands there. Assumes nothing.
-use mathlib.Core.Path.{_≡_, sym, ap, _∙_}
+use mathlib.Core.Path.{_≡_, sym, ap}
 use mathlib.Core.List.{List, []}
 use mathlib.Core.Bool.{true, false}
 use mathlib.Core.Option.{none, some}
-use Prim.Native.Nat.{ℕ, _+_, _≤_, _<_}
+use Prim.Native.Nat.{ℕ, _≤_, _<_}
 use native.Mathlib.Omega.{arith}
 use lib.ListN.{length, getD, take, drop}
 use borrow.Author.Tests.{lt-ltb, le-ltb}
 use Rattle.refusal.specs.Result.{ok, refuse, map-ok, unless-ok}
 use Rattle.refusal.specs.declared.Refusal.the-variants.{NotATree}
-use Rattle.grammar.specs.Expr.{Expr, concat, citations, count}
-use Rattle.grammar.specs.Rows.{span}
-use Rattle.grammar.specs.Bytes.{textsFrom, cites, textsIn, isTree, treeAt, treeOf}
+use Rattle.grammar.specs.Expr.{Expr, citations, count}
+use Rattle.grammar.specs.Bytes.{cites, isTree, treeAt, treeOf}
 use Rattle.grammar.specs.Steps.{ok-same}
 use Rattle.tree.specs.Walk.{textAt, textFrom, textSize}
 use Rattle.tree.specs.Cited.{placeOf, citedPlace, citedAnswer}

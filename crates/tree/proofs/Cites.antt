@@ -1,19 +1,19 @@
 -- A citation's text, by its row. Assumes nothing.
-use mathlib.Core.Path.{_≡_, refl, sym, ap, _∙_}
-use mathlib.Core.List.{List, [], _∷_, _++_}
+use mathlib.Core.Path.{_≡_, _∙_}
+use mathlib.Core.List.{List, []}
 use mathlib.Core.Bool.{true, _&&_}
 use Prim.Native.Nat.{ℕ, zero, suc, _+_, _-_, _*_, _≤_, _<_}
 use native.Mathlib.Omega.{arith}
 use lib.Dec.{eqb, leb}
-use lib.ListN.{length, getD, take, drop, length-append, length-drop, drop-of-length-le}
-use lib.Seq.{drop-drop, length-take-le}
+use lib.ListN.{length, getD, take, drop, length-append, length-drop}
+use lib.Seq.{length-take-le}
 use borrow.Author.Tests.{eqb-true, leb-true}
 use Rattle.laws.specs.Tests.{and-both}
 use Rattle.grammar.specs.Expr.{concat}
 use Rattle.grammar.specs.Citable.{citable, AllCitable}
 use Rattle.grammar.specs.Bytes.{headSize, rowSize, citeSize, field, nodes, cites, citesAt, textsAt, citedFrom, textsIn, citesOk, isTree}
 use Rattle.grammar.specs.Trees.{tests}
-use Rattle.tree.specs.Walk.{textAt, citeFrom, textFrom, textSize}
+use Rattle.tree.specs.Walk.{textAt, textFrom, textSize}
 
 -- what the test says of the first of the citation rows from a byte on
 record Head (b : List ℕ) (c at p : ℕ) : Type 0 where

@@ -1,12 +1,12 @@
 -- What stands at a row of a tree: one law for every walk over rows. Assumes nothing.
 use mathlib.Core.Path.{_≡_, refl, sym, ap, _∙_, subst}
-use mathlib.Core.List.{List, [], _∷_, _++_, append-nil}
+use mathlib.Core.List.{List, [], _∷_, _++_}
 use mathlib.Core.Bool.{true}
 use Prim.Native.Nat.{ℕ, zero, suc, _+_, _-_, _*_, _≤_, _<_}
 use native.Mathlib.Omega.{arith}
-use lib.ListN.{length, getD, drop, length-append, length-drop}
+use lib.ListN.{length, drop, length-append, length-drop}
 use Rattle.laws.specs.Tests.{and-both}
-use Rattle.grammar.specs.Expr.{Expr, Exprs, cite, Then, join, none, more, _◂_, _⧺_, Wide, Wides, citations, citationsOf, count, citations-append}
+use Rattle.grammar.specs.Expr.{Expr, Exprs, cite, Then, join, none, more, _◂_, _⧺_, Wide, Wides, citations, citationsOf, count}
 use Rattle.grammar.specs.Rows.{Row, row, many, node, rows, rowsOf, span, children, first, build, rows-span, rows-spans, builds, below, next-tree}
 use Rattle.grammar.specs.Bytes.{headSize, rowSize, field, nodes, cites, citesAt, textsAt, rowAt, rowsFrom, rowsIn, textsIn, rowOk, counted, rowsOk, isTree, forestAt, treeAt}
 use Rattle.grammar.specs.Shape.{Shape, shape}

@@ -1,6 +1,6 @@
 -- Each turn and each way out of the loops of `is_tree`, on the side of the definitions. Assumes nothing.
-use mathlib.Core.Path.{_≡_, refl, sym, ap, _∙_, subst}
-use mathlib.Core.List.{List, [], _∷_, _++_}
+use mathlib.Core.Path.{_≡_, refl, sym, ap, _∙_}
+use mathlib.Core.List.{List}
 use mathlib.Core.Bool.{Bool, true, false, _&&_, false≢true}
 use Prim.Native.Nat.{ℕ, zero, suc, _+_, _-_, _*_, _≤_, _<_}
 use native.Mathlib.Omega.{arith}
@@ -9,7 +9,7 @@ use lib.ListN.{length, take, drop}
 use borrow.Author.Tests.{lt-ltb, le-ltb, le-leb, lt-leb, eq-eqb, ne-eqb}
 use Rattle.grammar.specs.Citable.{citable}
 use Rattle.grammar.specs.Rows.{Row, row}
-use Rattle.grammar.specs.Bytes.{headSize, rowSize, citeSize, field, nodes, cites, citesAt, textsAt, citesFrom, textsFrom, rowAt, rowsFrom, rowsIn, headOk, sizeOf, tiles, rowOk, counted, rowsOk, citesOk, isTree}
+use Rattle.grammar.specs.Bytes.{headSize, field, nodes, cites, citesAt, textsAt, citesFrom, textsFrom, rowAt, rowsFrom, rowsIn, headOk, sizeOf, tiles, rowOk, counted, rowsOk, citesOk, isTree}
 use Rattle.grammar.specs.Reading.{citationLimit, citedLimit}
 
 pub and-false : (a b : Bool) → b ≡ false → false ≡ a && b

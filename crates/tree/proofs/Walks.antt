@@ -2,24 +2,24 @@
 use mathlib.Core.Path.{_≡_, refl, sym, ap, _∙_, subst}
 use mathlib.Core.List.{List, [], _∷_, _++_}
 use mathlib.Core.Bool.{Bool, true, false}
-use Prim.Native.Nat.{ℕ, zero, suc, _+_, _-_, _*_, _≤_, _<_}
+use Prim.Native.Nat.{ℕ, zero, suc, _+_, _-_, _≤_, _<_}
 use native.Mathlib.Nat.{add-zero}
 use native.Mathlib.Omega.{arith}
 use lib.Dec.{ltb}
-use lib.ListN.{length, getD, drop, length-append, length-drop}
+use lib.ListN.{length, drop, length-append}
 use lib.Seq.{getD-drop}
 use borrow.Author.Tests.{ltb-true, ltb-false}
 use Rattle.refusal.specs.Result.{ok, refuse}
 use Rattle.refusal.specs.declared.Refusal.the-variants.{NotATree}
-use Rattle.grammar.specs.Expr.{And, Or, Xor, Expr, Exprs, cite, Then, join, none, more, _◂_, _⧺_, Two, Wide, Wides, concat, citations, citationsOf, count, citations-append, append-none, appends-assoc}
+use Rattle.grammar.specs.Expr.{And, Or, Xor, Expr, Exprs, cite, Then, join, none, more, _◂_, _⧺_, citations, citationsOf, count, citations-append, append-none, appends-assoc}
 use Rattle.grammar.specs.Reading.{Fits}
 use Rattle.grammar.specs.Rows.{opKind, many, rows, span, spans, firsts, children, build, firsts-all, rows-span, built}
-use Rattle.grammar.specs.Bytes.{headSize, field, nodes, cites, citesAt, textsAt, rowsFrom, rowsIn, textsIn, isTree, forestAt, treeAt, treeOf}
+use Rattle.grammar.specs.Bytes.{headSize, nodes, cites, citesAt, textsAt, rowsFrom, rowsIn, textsIn, isTree, forestAt, treeAt, treeOf}
 use Rattle.grammar.specs.Shape.{span-some}
 use Rattle.grammar.specs.Pack.{rows-length}
 use Rattle.grammar.specs.Trees.{tests, rooted-in}
-use Rattle.tree.specs.Walk.{rowFrom, nodeKind, numberAt, firstAt, textAt}
-use Rattle.tree.proofs.Spots.{Spot, spot, found, tree-first, rowNumber, texts-count}
+use Rattle.tree.specs.Walk.{nodeKind, numberAt, firstAt, textAt}
+use Rattle.tree.proofs.Spots.{spot, found, tree-first, rowNumber, texts-count}
 use Rattle.tree.proofs.Cites.{texts-stand}
 
 -- what is not a tree is turned back with 15

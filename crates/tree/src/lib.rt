@@ -24,10 +24,14 @@ pub const ROW_SIZE: usize = 6;
 
 pub const CITE_SIZE: usize = 4;
 
-// The most citations, and the most bytes in them.
+// The most citations, the most bytes in them, the most nodes, and the most bytes of a tree.
 pub const CITATION_LIMIT: usize = 256;
 
 pub const CITED_LIMIT: usize = 2048;
+
+pub const NODE_LIMIT: usize = 511;
+
+pub const TREE_LIMIT: usize = 6150;
 
 // Where a citation's text stands in the tree.
 pub enum CitedText {

@@ -39,6 +39,7 @@ use Rattle.verdicts.specs.declared.Tally.{Tally}
 use Rattle.verdicts.specs.declared.Judged.{Judged}
 use Rattle.verdicts.specs.Tallies.{noTruths, withTruth, tallyOf, everyOf, someOf, ruleOf}
 use Rattle.verdicts.specs.Judged.{citedNumbers, numbersAt, CitedJudged, RowJudged}
+use Rattle.grammar.specs.Reading.{nodeLimit}
 
 -- not judged: True
 pub cited-true : (value text : List ℕ) (k : ConditionKind) (x : Bool) → x ≡ false → x ≡ isJudged k → k ≡ kindOf text → True ≡ citedTruth value text
@@ -278,7 +279,7 @@ module _ (value b : List ℕ) (tree : isTree b ≡ true) where
       (omega (arith, f .number, e), omega (arith, room, ap length (leaf-numbers value n (firstAt b row) (textAt b n) (treeAt b row) is (e ∙ f .first))))
 
   -- at most 511 rows
-  pub few-rows : nodes b ≤ 511
+  pub few-rows : nodes b ≤ nodeLimit
   few-rows = let r = root b tree in omega (arith, r .size, few-nodes (treeAt b 0) (r .fits))
 
   -- all numbers fit into the list

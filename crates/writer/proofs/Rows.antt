@@ -1,11 +1,11 @@
 -- One row more, one text more. Assumes nothing.
-use mathlib.Core.Path.{_≡_, refl, sym, ap, _∙_, subst}
+use mathlib.Core.Path.{_≡_, refl, sym, ap, _∙_}
 use mathlib.Core.List.{List, [], _∷_, _++_, append-assoc, append-nil}
 use Prim.Native.Nat.{ℕ, zero, suc, _+_, _*_, _/_, _%_, _≤_, _<_}
 use native.Mathlib.Numerals.{add-one}
-use native.Mathlib.Nat.{add-zero, add-assoc}
+use native.Mathlib.Nat.{add-zero}
 use native.Mathlib.Omega.{arith}
-use lib.ListN.{length, getD, take, drop, length-append, drop-of-length-le, length-drop}
+use lib.ListN.{length, getD, take, drop, length-append, drop-of-length-le}
 use lib.Seq.{take-suc, length-take-le, take-all, take-nil, take-take}
 use Rattle.grammar.specs.Expr.{concat}
 use Rattle.grammar.specs.Rows.{Row, row}

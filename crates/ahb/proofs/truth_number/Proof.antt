@@ -1,4 +1,4 @@
-use mathlib.Core.Path.{sym, ap, _∙_, subst}
+use mathlib.Core.Path.{sym, ap, _∙_}
 use Prim.Native.Nat.{ℕ, _+_}
 use Rattle.verdicts.specs.declared.TruthAnswer.{TruthAnswer}
 use Rattle.verdicts.specs.Said.{truthSaid}

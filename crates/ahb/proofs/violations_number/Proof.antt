@@ -1,4 +1,4 @@
-use mathlib.Core.Path.{sym, ap, _∙_, subst}
+use mathlib.Core.Path.{sym, ap, subst}
 use native.Mathlib.Omega.{arith}
 use Rattle.verdicts.specs.declared.ViolationsAnswer.{ViolationsAnswer}
 use Rattle.verdicts.specs.Said.{violationsSaid}

@@ -1,6 +1,6 @@
 use borrow.Author.Needs.{needs}
 use native.Mathlib.Omega.{arith}
-use mathlib.Core.Path.{_≡_, sym, _∙_}
+use mathlib.Core.Path.{sym, _∙_}
 use Rattle.lexer.proofs.Ending.{never-ends, ends-blank, ends-cited}
 use Rattle.lexer.proofs.close_at.Statement.{statement}
 use Rattle.lexer.proofs.close_at.Tie as tie

@@ -1,6 +1,6 @@
 use borrow.Author.Needs.{needs}
 use native.Mathlib.Omega.{arith}
-use Prim.Native.Nat.{ℕ, pred, _-_}
+use Prim.Native.Nat.{pred, _-_}
 use mathlib.Core.Path.{_≡_, _∙_}
 use Rattle.lexer.proofs.Limits.{deeper-over, deeper-open, deeper-close, deeper-other}
 use Rattle.lexer.proofs.depth_after.Statement.{statement}

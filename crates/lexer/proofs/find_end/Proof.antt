@@ -1,7 +1,7 @@
 use borrow.Author.Needs.{needs}
 use native.Mathlib.Omega.{arith}
-use Prim.Native.Nat.{ℕ, _+_, _-_, _≤_}
-use mathlib.Core.Path.{_≡_, refl, sym, ap, _∙_}
+use Prim.Native.Nat.{_+_, _-_}
+use mathlib.Core.Path.{_≡_, refl, _∙_}
 use lib.ListN.{length, drop}
 use Rattle.grammar.specs.Lex.{citeEnd}
 use Rattle.lexer.specs.Runs.{upTo}

@@ -1,7 +1,5 @@
 use borrow.Author.Needs.{needs}
-use Prim.Native.Nat.{ℕ}
-use mathlib.Core.Path.{_≡_, sym, ap, _∙_}
-use Rattle.lexer.specs.Runs.{firstWord, runEnd}
+use Rattle.lexer.specs.Runs.{firstWord}
 use Rattle.lexer.proofs.first_word.Statement.{statement}
 use Rattle.lexer.proofs.first_word.Tie as tie
 

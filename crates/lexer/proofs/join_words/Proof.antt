@@ -1,10 +1,8 @@
 use borrow.Author.Needs.{needs}
 use native.Mathlib.Omega.{arith}
-use Prim.Native.Nat.{ℕ, _+_, _-_}
-use mathlib.Core.Path.{_≡_, refl, sym, ap, _∙_}
-use mathlib.Core.List.{List, _++_}
-use lib.ListN.{length, take, drop}
-use Rattle.lexer.specs.Runs.{runEnd}
+use Prim.Native.Nat.{_+_, _-_}
+use mathlib.Core.Path.{_≡_, refl}
+use lib.ListN.{length}
 use Rattle.lexer.proofs.Joining.{Joining, joining-start, word-later, word-room, word-fits, joining-on, joining-end}
 use Rattle.lexer.proofs.join_words.Statement.{statement}
 use Rattle.lexer.proofs.join_words.Tie as tie

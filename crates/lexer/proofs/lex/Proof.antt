@@ -1,5 +1,5 @@
 use borrow.Author.Needs.{needs}
-use mathlib.Core.Path.{_≡_, subst}
+use mathlib.Core.Path.{subst}
 use Rattle.lexer.specs.State.{Ends}
 use Rattle.lexer.proofs.Turns.{lex-off, lex-on}
 use Rattle.lexer.proofs.lex.Statement.{statement}

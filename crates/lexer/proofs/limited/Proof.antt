@@ -1,4 +1,3 @@
-use borrow.Author.Needs.{needs}
 use native.Mathlib.Omega.{arith}
 use Rattle.lexer.proofs.Limits.{none-counted, many-counted, large-counted, deep-counted, all-counted}
 use Rattle.lexer.proofs.limited.Statement.{statement}

@@ -1,6 +1,6 @@
 use borrow.Author.Needs.{needs}
 use native.Mathlib.Omega.{arith}
-use mathlib.Core.Path.{_≡_, sym, _∙_, subst}
+use mathlib.Core.Path.{sym, _∙_, subst}
 use Rattle.lexer.specs.State.{Closes}
 use Rattle.lexer.proofs.Marks.{no-bad, no-end, step-ahead, token-space, token-stray, token-mark, token-never, token-cite}
 use Rattle.lexer.proofs.token_at.Statement.{statement}

@@ -1,5 +1,4 @@
 use Rattle.line.proofs.Texts.{letters, one-letter, other-letter}
-use borrow.Author.Needs.{needs}
 use Rattle.line.proofs.answer_byte.Statement.{statement}
 use Rattle.line.proofs.answer_byte.Tie as tie
 

@@ -3,7 +3,7 @@ use mathlib.Core.Path.{sym}
 use native.Mathlib.Omega.{arith}
 use lib.ListN.{length}
 use lib.Seq.{length-take-le}
-use Rattle.line.specs.Sizes.{longestPrint}
+use Rattle.grammar.specs.Reading.{printLimit}
 use Rattle.line.proofs.Texts.{line-names, within, lined}
 use borrow.Author.Needs.{needs}
 use Rattle.line.proofs.tree_line.Statement.{statement}
@@ -37,7 +37,7 @@ same-length : tie.Need-same-length
 same-length c = search needs
 
 returns : tie.Need-returns
-returns c = let p : c .before .before .before .before .before .before .before .before .before .before .before .before .before .before .before .print-into .result ≤ length (c .before .before .before .before .before .before .before .before .before .before .before .before .before .before .before .print-into .last .1 .0) = omega (arith, c .before .before .before .before .before .before .before .before .before .before .before .before .before .before .before .print-into .ensures .0, c .before .before .before .before .before .before .before .before .before .before .before .before .before .before .before .print-into .kept) in lined "tree " longestPrint (line-names .1 .0) (c .before .before .before .before .before .before .before .before .before .before .before .put-text .ensures) (within longestPrint (c .before .before .before .before .before .before .before .before .before .before .before .before .before .before .before .print-into .ensures .1) (omega (arith, length-take-le (c .before .before .before .before .before .before .before .before .before .before .before .before .before .before .before .print-into .result) (c .before .before .before .before .before .before .before .before .before .before .before .before .before .before .before .print-into .last .1 .0) p, c .before .before .before .before .before .before .before .before .before .before .before .before .before .before .before .print-into .ensures .0)) (c .before .before .before .before .before .before .put-text2 .ensures)) (c .before .before .put-byte .ensures)
+returns c = let p : c .before .before .before .before .before .before .before .before .before .before .before .before .before .before .before .print-into .result ≤ length (c .before .before .before .before .before .before .before .before .before .before .before .before .before .before .before .print-into .last .1 .0) = omega (arith, c .before .before .before .before .before .before .before .before .before .before .before .before .before .before .before .print-into .ensures .0, c .before .before .before .before .before .before .before .before .before .before .before .before .before .before .before .print-into .kept) in lined "tree " printLimit (line-names .1 .0) (c .before .before .before .before .before .before .before .before .before .before .before .put-text .ensures) (within printLimit (c .before .before .before .before .before .before .before .before .before .before .before .before .before .before .before .print-into .ensures .1) (omega (arith, length-take-le (c .before .before .before .before .before .before .before .before .before .before .before .before .before .before .before .print-into .result) (c .before .before .before .before .before .before .before .before .before .before .before .before .before .before .before .print-into .last .1 .0) p, c .before .before .before .before .before .before .before .before .before .before .before .before .before .before .before .print-into .ensures .0)) (c .before .before .before .before .before .before .put-text2 .ensures)) (c .before .before .put-byte .ensures)
 
 pub tree-line-spec : {M : Type 1} → statement M
 tree-line-spec =

@@ -1,6 +1,5 @@
 use native.Mathlib.Omega.{arith}
 use Rattle.grammar.specs.Trees.{tests}
-use borrow.Author.Needs.{needs}
 use Rattle.tree.proofs.cite_count.Statement.{statement}
 use Rattle.tree.proofs.cite_count.Tie as tie
 

@@ -1,6 +1,6 @@
 use native.Mathlib.Omega.{arith}
 use Prim.Native.Nat.{ℕ, _+_, _-_}
-use mathlib.Core.Path.{sym, ap, _∙_}
+use mathlib.Core.Path.{ap, _∙_}
 use lib.Dec.{eqb}
 use Rattle.grammar.specs.Bytes.{rowSize}
 use Rattle.grammar.specs.Pack.{rows-length}

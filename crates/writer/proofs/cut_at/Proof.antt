@@ -1,5 +1,5 @@
 use native.Mathlib.Omega.{arith}
-use mathlib.Core.Path.{sym, ap, _∙_}
+use mathlib.Core.Path.{_∙_}
 use Rattle.writer.proofs.Rows.{cut-none, cut-rest, cut-part}
 use borrow.Author.Needs.{needs}
 use Rattle.writer.proofs.cut_at.Statement.{statement}

@@ -1,6 +1,5 @@
 use native.Mathlib.Omega.{arith}
 use Rattle.fields.proofs.Appends as appends
-use Rattle.grammar.specs.Bytes.{headBytes}
 use Rattle.writer.proofs.Rows.{head-bytes}
 use borrow.Author.Needs.{needs}
 use Rattle.writer.proofs.put_head.Statement.{statement}

@@ -1,7 +1,6 @@
 use native.Mathlib.Omega.{arith}
 use Rattle.fields.proofs.Appends as appends
 use mathlib.Core.Path.{sym, ap}
-use Prim.Native.Nat.{ℕ}
 use Rattle.grammar.specs.Bytes.{twoBytes}
 use Rattle.writer.proofs.Rows.{row-bytes}
 use borrow.Author.Needs.{needs}
