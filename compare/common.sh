@@ -20,12 +20,11 @@ build() {
     fi
 }
 
-# For the short comparison: what is linked, else the programs are tried, which takes no proof.
+# For the short comparison: what is linked; else the programs are tried, which takes no proof.
 find_ours() {
     if [ -n "${REPLAY:-}" ] || [ -x "$root/target/bin/replay" ]; then
         find_linked
     else
-        echo "target/bin/replay is not there: replay and tables are compiled by rt try, without a proof" >&2
         features=
     fi
 }

@@ -649,3 +649,18 @@ pub fn shown(line: &[u8]) -> String {
     let cut = if line.len() > MOST { " (cut here)" } else { "" };
     format!("{}{cut}", String::from_utf8_lossy(&line[..line.len().min(MOST)]))
 }
+
+#[cfg(test)]
+mod tests {
+    use super::*;
+
+    #[test]
+    fn requests_and_answers_are_split_alike() {
+        let cases = [(Function::Kind, Origin::Rust); 3];
+        let asked = Lines { requests: b"kind 31\nkind 32\nkind 33", due: b"0\n0\n0\n", cases: &cases };
+        let (first, rest) = asked.split(2);
+        assert_eq!((first.requests, first.due), (&b"kind 31\nkind 32\n"[..], &b"0\n0\n"[..]));
+        assert_eq!((rest.requests, rest.due), (&b"kind 33"[..], &b"0\n"[..]));
+        assert_eq!((first.cases.len(), rest.cases.len()), (2, 1));
+    }
+}

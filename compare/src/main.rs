@@ -65,7 +65,9 @@ fn run(long: bool) -> Result<bool, String> {
         Plan { replay: &replay, long, seed: number("SEED", 1)?, stop, rounds, listed: Arc::new(listed) };
     match &replay {
         Replay::Linked(path) => println!("replay {}, seed {}", path.display(), plan.seed),
-        Replay::Tried(_) => println!("replay compiled by rt try, without a proof, seed {}", plan.seed),
+        Replay::Tried(_) => {
+            println!("replay is not linked: compiled by rt try, without a proof, seed {}", plan.seed)
+        }
     }
     let asked = if calls::LINKED {
         tables::compare(&root().join("target/bin/tables"))?
