@@ -7,16 +7,9 @@ use lib.ListN.{length, length-append}
 use Rattle.grammar.specs.Expr.{Op, And, Or, Xor, Expr, Exprs, cite, Then, join, none, more, citations, citationsOf, count}
 use Rattle.grammar.specs.Rows.{Row, row, opKind, many, node, rows, rowsOf, span, spans, rows-spans}
 use Rattle.grammar.specs.Shape.{span-some}
-use Rattle.lexer.specs.Tokens as lexed
 use Rattle.parser.specs.Packed.{pack, packed}
-use Rattle.writer.specs.Unpacked.{rowOf, unpacked, cut, cuts}
+use Rattle.writer.specs.Unpacked.{rowOf, unpacked}
 use Rattle.writer.proofs.Laws.{row-back}
-
--- the writer's texts at places are the lexer's
-pub cuts-same : (s ps : List ℕ) → cuts s ps ≡ lexed.cuts s ps
-unfolding cuts cut lexed.cuts
-cuts-same s [] = refl
-cuts-same s (p ∷ ps) = ap (λ x. lexed.cut s p ∷ x) (cuts-same s ps)
 
 many-spans : (es : Exprs) → many es ≤ spans es
 unfolding many spans

@@ -21,11 +21,12 @@ use Rattle.grammar.specs.Outcome.{answerOf, writtenOf, withLength, parseAnswer,
 use Rattle.grammar.specs.Theorems.{bytes-length, few-nodes}
 use Rattle.fields.specs.Appended.{Appended}
 use Rattle.fields.proofs.Appends as appends
-use Rattle.writer.specs.Unpacked.{unpacked, cuts}
+use Rattle.lexer.specs.Tokens.{cuts}
+use Rattle.writer.specs.Unpacked.{unpacked}
 use Rattle.writer.proofs.Laws.{packed-bytes}
 use Rattle.reader.specs.Said.{treeOutcome}
 use Rattle.reader.specs.Made.{Stands}
-use Rattle.reader.proofs.Back.{cuts-same, rows-back}
+use Rattle.reader.proofs.Back.{rows-back}
 
 -- a refusal: nothing is written
 pub refused-reading : (x : Result Expr) (old : List ℕ) (why : Refusal) → x ≡ refuse why → (refuse why ≡ answerOf (treeOutcome x) (length old)) × (old ≡ writtenOf (treeOutcome x) old)
@@ -51,13 +52,9 @@ module _ (s places held : List ℕ) (n c t : ℕ) (m : Stands s places held n c 
   pub small : (n ≤ nodeLimit) × (c ≤ citationLimit) × (t ≤ citedLimit)
   small = (omega (arith, few-nodes e (m .fits), m .nodes), omega (arith, m .fits .few, m .cites), omega (arith, m .fits .small, m .bytes))
 
-  -- the texts that are written
-  pub cuts-are : cuts s (take c places) ≡ citations e
-  cuts-are = cuts-same s (take c places) ∙ m .cited
-
   -- their bytes
   pub cuts-size : t ≡ length (concat (cuts s (take c places)))
-  cuts-size = m .bytes ∙ ap (λ y. length (concat y)) (sym cuts-are)
+  cuts-size = m .bytes ∙ ap (λ y. length (concat y)) (sym (m .cited))
 
   rows-are : unpacked (take n held) ≡ rows 0 e
   rows-are = ap unpacked (m .rowed) ∙ rows-back e 0 (omega (arith, m .fits .few)) (omega (arith, few-nodes e (m .fits)))
@@ -74,7 +71,7 @@ module _ (s places held : List ℕ) (n c t : ℕ) (m : Stands s places held n c 
       → (ok q ≡ answerOf (treeOutcome x) (length old)) × (new ≡ writtenOf (treeOutcome x) old)
   written old new q l a =
       let w = withLength (bytesOf e) in
-      let b = appends.same (packed-bytes e (take n held) s (take c places) rows-are cuts-are) a in
+      let b = appends.same (packed-bytes e (take n held) s (take c places) rows-are (m .cited)) a in
       let same : q ≡ length (bytesOf e) = omega (arith, b .ends) in
       let h : length (bytesOf e) ≤ length old = omega (arith, sized) in
       (rw (outcome x e (m .is)) (ap ok same ∙ sym (answer-fits w (length old) h)), rw (outcome x e (m .is)) (appends.whole b ∙ sym (written-fits w old h)))

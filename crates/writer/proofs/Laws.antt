@@ -8,7 +8,8 @@ use lib.Seq.{length-take-le}
 use Rattle.grammar.specs.Expr.{Expr, concat, citations}
 use Rattle.grammar.specs.Rows.{row, rows}
 use Rattle.grammar.specs.Bytes.{headBytes, rowBytes, citeBytes, packed, bytesOf}
-use Rattle.writer.specs.Unpacked.{rowOf, unpacked, cuts}
+use Rattle.lexer.specs.Tokens.{cuts}
+use Rattle.writer.specs.Unpacked.{rowOf, unpacked}
 use Rattle.writer.proofs.Rows.{rows-count, cuts-count}
 
 -- header, node rows, citation rows and texts are a tree

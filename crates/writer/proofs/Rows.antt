@@ -11,7 +11,8 @@ use Rattle.grammar.specs.Expr.{concat}
 use Rattle.grammar.specs.Rows.{Row, row}
 use Rattle.fields.specs.Appended.{Appended}
 use Rattle.grammar.specs.Bytes.{twoBytes, headBytes, rowBytes, citeBytes}
-use Rattle.writer.specs.Unpacked.{rowOf, unpacked, cut, cuts}
+use Rattle.lexer.specs.Tokens.{startOf, sizeOf, cut, cuts}
+use Rattle.writer.specs.Unpacked.{rowOf, unpacked}
 
 rows-append : (a b : List Row) → rowBytes (a ++ b) ≡ rowBytes a ++ rowBytes b
 unfolding rowBytes
@@ -138,18 +139,15 @@ pub size-next : (s vs : List ℕ) (i : ℕ) → i < length vs → length (concat
 size-next s vs i h = ap length (sym (texts-next s vs i h)) ∙ length-append (concat (cuts s (take i vs))) (cut s (getD vs i 0))
 
 -- a place past the end
-pub cut-none : (s : List ℕ) (v start : ℕ) → start ≡ v / 8192 → length s < start → take 0 s ≡ cut s v
-unfolding cut
-cut-none s v start e h = let l : length s ≤ v / 8192 = omega arith in sym (ap (take (v % 8192)) (drop-of-length-le s {i = v / 8192} l) ∙ take-nil (v % 8192))
+pub cut-none : (s : List ℕ) (v start : ℕ) → start ≡ startOf v → length s < start → take 0 s ≡ cut s v
+cut-none s v start e h = let l : length s ≤ startOf v = omega arith in sym (ap (take (sizeOf v)) (drop-of-length-le s {i = startOf v} l) ∙ take-nil (sizeOf v))
 
 -- a place that reaches the end
-pub cut-rest : (s rest : List ℕ) (v start size : ℕ) → start ≡ v / 8192 → size ≡ v % 8192 → rest ≡ drop start s → length rest < size → rest ≡ cut s v
-unfolding cut
+pub cut-rest : (s rest : List ℕ) (v start size : ℕ) → start ≡ startOf v → size ≡ sizeOf v → rest ≡ drop start s → length rest < size → rest ≡ cut s v
 cut-rest s rest v start size e f r h = rw (← e, ← f, ← r) (sym (take-all size rest (omega arith)))
 
 -- a place within
-pub cut-part : (s rest : List ℕ) (v start size : ℕ) → start ≡ v / 8192 → size ≡ v % 8192 → rest ≡ drop start s → take size rest ≡ cut s v
-unfolding cut
+pub cut-part : (s rest : List ℕ) (v start size : ℕ) → start ≡ startOf v → size ≡ sizeOf v → rest ≡ drop start s → take size rest ≡ cut s v
 cut-part s rest v start size e f r = rw (f, r, e)
 
 row-size : (v : ℕ) → length (rowBytes (rowOf v ∷ [])) ≡ 6

@@ -1,6 +1,8 @@
 // Writing a tree as bytes: header, node rows, citation rows, texts.
 use fields::put_text;
 use fields::put16;
+use lexer::size_of;
+use lexer::start_of;
 use text::head;
 use text::tail;
 use tree::CITE_SIZE;
@@ -13,20 +15,15 @@ ghost use lib.ListN.{length, take};
 ghost use Rattle.fields.specs.Appended.{Appended};
 ghost use Rattle.grammar.specs.Expr.{concat};
 ghost use Rattle.grammar.specs.Bytes.{headSize, rowSize, citeSize, textsFrom, headBytes, rowBytes, citeBytes, packed};
-ghost use Rattle.writer.specs.Unpacked.{rowOf, unpacked, cut, cuts};
+ghost use Rattle.lexer.specs.Tokens.{cut, cuts};
+ghost use Rattle.writer.specs.Unpacked.{rowOf, unpacked};
 
-fn wide(x: u32) -> usize
-    ensures { λ r. ⌜ r ≡ x ⌝ }
-{
-    x as usize
-}
-
-// The bytes at a place: it starts at `place / 8192` and has `place % 8192` bytes, as far as the text goes.
+// The bytes at a place, as far as the text goes.
 fn cut_at(text: &[u8], place: u32) -> &[u8]
     ensures { λ r. ⌜ now r ≡ cut (now (text .entry)) place ⌝ }
 {
-    let start = wide(place / 8192);
-    let size = wide(place % 8192);
+    let start = start_of(place);
+    let size = size_of(place);
     if text.len() < start {
         return head(text, 0);
     }

@@ -10,49 +10,19 @@ Inv-loop what given words from separator at₀ at = Unit {0}
 abbrev μ-loop : tie.MeasureT-loop
 μ-loop what given words from separator at₀ at = length words - at
 
-loop-holds : tie.Need-loop-holds Inv-loop μ-loop
-loop-holds c = search needs
-
-tail-requires : tie.Need-tail-requires Inv-loop μ-loop
-tail-requires c κs = search needs
-
-width-of-requires : tie.Need-width-of-requires Inv-loop μ-loop
-width-of-requires c κs = search needs
-
-head-requires : tie.Need-head-requires Inv-loop μ-loop
-head-requires c κs = search needs
-
-asked-requires : tie.Need-asked-requires Inv-loop μ-loop
-asked-requires c κs = search needs
-
-add-at : tie.Need-add-at Inv-loop μ-loop
-add-at c = search needs
-
-add-at-2 : tie.Need-add-at-2 Inv-loop μ-loop
-add-at-2 c = search needs
-
-loop-less : tie.Need-loop-less Inv-loop μ-loop
-loop-less c = search needs
-
-loop-again : tie.Need-loop-again Inv-loop μ-loop
-loop-again c = search needs
-
-returns : tie.Need-returns Inv-loop μ-loop
-returns c = search needs
-
 pub each-spec : {M : Type 1} → statement M
 each-spec =
     tie.close
     (tie.spec
     Inv-loop
     μ-loop
-    loop-holds
-    tail-requires
-    width-of-requires
-    head-requires
-    asked-requires
-    add-at
-    add-at-2
-    loop-less
-    loop-again
-    returns)
+    (λ c. search needs)
+    (λ c κs. search needs)
+    (λ c κs. search needs)
+    (λ c κs. search needs)
+    (λ c κs. search needs)
+    (λ c. search needs)
+    (λ c. search needs)
+    (λ c. search needs)
+    (λ c. search needs)
+    (λ c. search needs))

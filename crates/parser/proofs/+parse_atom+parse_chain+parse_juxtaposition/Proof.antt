@@ -175,20 +175,6 @@ parse-chain-Inv-loop toks work₀ p op₀ q₀ work op q =
 abbrev parse-chain-μ-loop : parse-chain-lts.MeasureT-loop
 parse-chain-μ-loop toks work₀ p op₀ q₀ work op q = length toks - q .at
 
-parse-chain-parse-juxtaposition-requires :
-    (t : ℕ) → parse-chain-lts.Need-parse-juxtaposition-requires (
-      parse-juxtaposition-below t,
-      parse-juxtaposition.Post,
-      op-at-reads.Asked,
-      op-at-reads.Learnt,
-      led-reads.Asked,
-      led-reads.Learnt,
-      grow-reads.Asked,
-      grow-reads.Learnt,
-    ) (parse-chain-at t) parse-chain.Post parse-chain-Inv-loop parse-chain-μ-loop
-parse-chain-parse-juxtaposition-requires t c κs = let s = c .before .before .before .args .toks .now in let p = c .before .before .before .args .p in let old = c .before .before .before .args .work .now in let ready = c .before .before .before .pre .1 in
-    (omega (arith, c .before .before .before .pre .0), ready)
-
 -- what is asked of the functions that are called, and what is learnt from them
 abbrev parse-chain-claims : ℕ → parse-chain-lts.Claims
 parse-chain-claims t = (
@@ -201,6 +187,11 @@ parse-chain-claims t = (
   grow-reads.Asked,
   grow-reads.Learnt,
 )
+
+parse-chain-parse-juxtaposition-requires :
+    (t : ℕ) → parse-chain-lts.Need-parse-juxtaposition-requires (parse-chain-claims t) (parse-chain-at t) parse-chain.Post parse-chain-Inv-loop parse-chain-μ-loop
+parse-chain-parse-juxtaposition-requires t c κs = let s = c .before .before .before .args .toks .now in let p = c .before .before .before .args .p in let old = c .before .before .before .args .work .now in let ready = c .before .before .before .pre .1 in
+    (omega (arith, c .before .before .before .pre .0), ready)
 
 parse-chain-enum-known-why : (t : ℕ) → parse-chain-lts.Need-enum-known-why (parse-chain-claims t) (parse-chain-at t) parse-chain.Post parse-chain-Inv-loop parse-chain-μ-loop
 parse-chain-enum-known-why t c = search needs
@@ -229,16 +220,7 @@ parse-chain-loop-holds t c = let s = c .before .before .before .before .before .
     (before-turn s p (c .before .before .before .before .before .before .before .before .parse-juxtaposition .last .1 .0) (c .before .before .op-at .result) _ (rw (c .led .ensures) (st .0)) (c .before .if1 .left), refl, refl)
 
 parse-chain-parse-juxtaposition-requires-2 :
-    (t : ℕ) → parse-chain-lts.Need-parse-juxtaposition-requires-2 (
-      parse-juxtaposition-below t,
-      parse-juxtaposition.Post,
-      op-at-reads.Asked,
-      op-at-reads.Learnt,
-      led-reads.Asked,
-      led-reads.Learnt,
-      grow-reads.Asked,
-      grow-reads.Learnt,
-    ) (parse-chain-at t) parse-chain.Post parse-chain-Inv-loop parse-chain-μ-loop
+    (t : ℕ) → parse-chain-lts.Need-parse-juxtaposition-requires-2 (parse-chain-claims t) (parse-chain-at t) parse-chain.Post parse-chain-Inv-loop parse-chain-μ-loop
 parse-chain-parse-juxtaposition-requires-2 t c κs = let s = c .before .before .before .before .before .before .before .before .before .before .before .before .before .before .before .args .toks .now in let p = c .before .before .before .before .before .before .before .before .before .before .before .before .before .before .before .args .p in let old = c .before .before .before .before .before .before .before .before .before .before .before .before .before .before .before .args .work .now in let ready = c .before .before .before .before .before .before .before .before .before .before .before .before .before .before .before .pre .1 in
     let work = c .before .before .loop .work in let q = c .before .before .loop .q in let op = c .before .before .loop .op in let inv = c .before .before .loop .inv in
     let kept : length work ≡ length old = omega (arith, inv .2, c .before .before .before .before .before .before .before .before .before .before .before .parse-juxtaposition .kept) in
@@ -317,22 +299,6 @@ parse-juxtaposition-Inv-loop toks work₀ p q₀ kids₀ work q kids =
 abbrev parse-juxtaposition-μ-loop : parse-juxtaposition-lts.MeasureT-loop
 parse-juxtaposition-μ-loop toks work₀ p q₀ kids₀ work q kids = length toks - q .at
 
-parse-juxtaposition-parse-atom-requires :
-    (t : ℕ) → parse-juxtaposition-lts.Need-parse-atom-requires (
-      parse-atom-below t,
-      parse-atom.Post,
-      operand-at-reads.Asked,
-      operand-at-reads.Learnt,
-      add-node-reads.Asked,
-      add-node-reads.Learnt,
-    )
-    (parse-juxtaposition-at t)
-    parse-juxtaposition.Post
-    parse-juxtaposition-Inv-loop
-    parse-juxtaposition-μ-loop
-parse-juxtaposition-parse-atom-requires t c κs = let s = c .before .before .before .args .toks .now in let p = c .before .before .before .args .p in let old = c .before .before .before .args .work .now in let ready = c .before .before .before .pre .1 in
-    (omega (arith, c .before .before .before .pre .0), ready)
-
 -- what is asked of the functions that are called, and what is learnt from them
 abbrev parse-juxtaposition-claims : ℕ → parse-juxtaposition-lts.Claims
 parse-juxtaposition-claims t = (
@@ -343,6 +309,15 @@ parse-juxtaposition-claims t = (
   add-node-reads.Asked,
   add-node-reads.Learnt,
 )
+
+parse-juxtaposition-parse-atom-requires :
+    (t : ℕ) → parse-juxtaposition-lts.Need-parse-atom-requires (parse-juxtaposition-claims t)
+    (parse-juxtaposition-at t)
+    parse-juxtaposition.Post
+    parse-juxtaposition-Inv-loop
+    parse-juxtaposition-μ-loop
+parse-juxtaposition-parse-atom-requires t c κs = let s = c .before .before .before .args .toks .now in let p = c .before .before .before .args .p in let old = c .before .before .before .args .work .now in let ready = c .before .before .before .pre .1 in
+    (omega (arith, c .before .before .before .pre .0), ready)
 
 parse-juxtaposition-enum-known-why : (t : ℕ) → parse-juxtaposition-lts.Need-enum-known-why (parse-juxtaposition-claims t)
     (parse-juxtaposition-at t)
@@ -368,14 +343,7 @@ parse-juxtaposition-loop-holds t c = let s = c .before .before .before .before .
     (st .0, refl, refl)
 
 parse-juxtaposition-operand-at-requires :
-    (t : ℕ) → parse-juxtaposition-lts.Need-operand-at-requires (
-      parse-atom-below t,
-      parse-atom.Post,
-      operand-at-reads.Asked,
-      operand-at-reads.Learnt,
-      add-node-reads.Asked,
-      add-node-reads.Learnt,
-    )
+    (t : ℕ) → parse-juxtaposition-lts.Need-operand-at-requires (parse-juxtaposition-claims t)
     (parse-juxtaposition-at t)
     parse-juxtaposition.Post
     parse-juxtaposition-Inv-loop
@@ -383,14 +351,7 @@ parse-juxtaposition-operand-at-requires :
 parse-juxtaposition-operand-at-requires t c κs = search needs
 
 parse-juxtaposition-parse-atom-requires-2 :
-    (t : ℕ) → parse-juxtaposition-lts.Need-parse-atom-requires-2 (
-      parse-atom-below t,
-      parse-atom.Post,
-      operand-at-reads.Asked,
-      operand-at-reads.Learnt,
-      add-node-reads.Asked,
-      add-node-reads.Learnt,
-    )
+    (t : ℕ) → parse-juxtaposition-lts.Need-parse-atom-requires-2 (parse-juxtaposition-claims t)
     (parse-juxtaposition-at t)
     parse-juxtaposition.Post
     parse-juxtaposition-Inv-loop

@@ -6,7 +6,7 @@ use lib.ListN.{length, take}
 use Rattle.fields.specs.Appended.{Appended}
 use Rattle.grammar.specs.Expr.{concat}
 use Rattle.grammar.specs.Bytes.{citeBytes}
-use Rattle.writer.specs.Unpacked.{cuts}
+use Rattle.lexer.specs.Tokens.{cuts}
 use Rattle.writer.proofs.Rows.{cites-none, texts-none, cites-next, size-first, size-next}
 use borrow.Author.Needs.{needs}
 use Rattle.writer.proofs.put_cites.Statement.{statement}

@@ -5,7 +5,7 @@ use mathlib.Core.Path.{_≡_, refl, sym, ap}
 use lib.ListN.{length, take}
 use Rattle.fields.specs.Appended.{Appended}
 use Rattle.grammar.specs.Expr.{concat}
-use Rattle.writer.specs.Unpacked.{cuts}
+use Rattle.lexer.specs.Tokens.{cuts}
 use Rattle.writer.proofs.Rows.{texts-none, texts-next, size-first, size-next}
 use borrow.Author.Needs.{needs}
 use Rattle.writer.proofs.put_texts.Statement.{statement}
