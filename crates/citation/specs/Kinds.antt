@@ -1,13 +1,14 @@
 -- The kind of a citation (document 01, `ConditionKind::of`). Assumes nothing.
 use Prim.Native.Nat.{ℕ}
 use mathlib.Core.List.{List, [], _∷_}
-use mathlib.Core.Bool.{Bool, cond, _&&_}
-use lib.Dec.{leb}
+use mathlib.Core.Bool.{cond}
 use Rattle.refusal.specs.Result.{Result, ok, refuse}
+use Rattle.text.specs.Quoted.{ascii}
 use Rattle.text.specs.Bytes.{begins, has}
 use Rattle.text.specs.Digits.{numberUpTo}
 use Rattle.text.specs.declared.Found.{Found}
 use Rattle.text.specs.declared.Found.the-variants.{Number, Nothing}
+use Rattle.utf8.specs.Utf8.{within}
 use Rattle.utf8.specs.Limits.{textLimit, admitted}
 use Rattle.citation.specs.declared.ConditionKind.{ConditionKind}
 use Rattle.citation.specs.declared.ConditionKind.the-variants.{Voraussetzung, Hinweis, Format, Wiederholbarkeit, Zeitpunkt, Paket, Other}
@@ -23,10 +24,6 @@ kindNumber Wiederholbarkeit = 3
 kindNumber Zeitpunkt = 4
 kindNumber Paket = 5
 kindNumber Other = 6
-
--- from the one number to the other, both included
-abbrev pub within : ℕ → ℕ → ℕ → Bool
-within low high n = leb low n && leb n high
 
 -- the kind by the number's range
 unfoldable pub kindOfNumber : ℕ → ConditionKind
@@ -48,7 +45,7 @@ kindOfFound Nothing = Other
 
 -- the kind that a text names: `UB` in front first, then a `P`, then the number
 unfoldable pub kindOf : List ℕ → ConditionKind
-kindOf t = cond (begins (85 ∷ 66 ∷ []) t) Zeitpunkt (cond (has (80 ∷ []) t) Paket (kindOfFound (numberUpTo largestNumber t)))
+kindOf t = cond (begins (ascii "UB") t) Zeitpunkt (cond (has (ascii "P") t) Paket (kindOfFound (numberUpTo largestNumber t)))
 
 -- the answer on a text
 abbrev pub kindAnswer : List ℕ → Result ConditionKind

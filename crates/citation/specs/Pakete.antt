@@ -6,6 +6,7 @@ use lib.ListN.{length, take, drop}
 use lib.Dec.{ltb, eqb}
 use Rattle.refusal.specs.Result.{Result, ok, refuse, unless}
 use Rattle.refusal.specs.declared.Refusal.the-variants.{NotAPaket}
+use Rattle.text.specs.Quoted.{ascii}
 use Rattle.text.specs.Bytes.{same, place, has}
 use Rattle.text.specs.Digits.{allDigits, numberUpTo}
 use Rattle.text.specs.declared.Found.{Found}
@@ -34,14 +35,14 @@ highOf name low Nothing = refuse NotAPaket
 
 -- the lower bound as a number; then the upper bound, or `n` for none
 abbrev pub lowOf : ℕ → Found → List ℕ → Result Paket
-lowOf name (Number low) h = cond (same (110 ∷ []) h) (ok (unbounded name low)) (highOf name low (numberUpTo largestBound h))
+lowOf name (Number low) h = cond (same (ascii "n") h) (ok (unbounded name low)) (highOf name low (numberUpTo largestBound h))
 lowOf name Nothing h = refuse NotAPaket
 
 -- low, the first `..`, and high or `n`
 unfoldable pub rangeOf : ℕ → List ℕ → Result Paket
 rangeOf name r =
-    let at = place (46 ∷ 46 ∷ []) r in
-    unless (has (46 ∷ 46 ∷ []) r) NotAPaket (lowOf name (numberUpTo largestBound (take at r)) (drop (at + 2) r))
+    let at = place (ascii "..") r in
+    unless (has (ascii "..") r) NotAPaket (lowOf name (numberUpTo largestBound (take at r)) (drop (at + 2) r))
 
 -- what follows the name: nothing, which is 0 without an upper bound, or the two bounds
 abbrev pub boundsOf : ℕ → List ℕ → Result Paket
@@ -50,8 +51,8 @@ boundsOf name r = cond (eqb (length r) 0) (ok (unbounded name 0)) (rangeOf name 
 -- the Paket that a text names: one or more digits and the first `P` are its name, then the bounds
 unfoldable pub paketOf : List ℕ → Result Paket
 paketOf t =
-    let p = place (80 ∷ []) t in
-    unless (has (80 ∷ []) t && (ltb 0 p && allDigits (take p t))) NotAPaket (boundsOf (p + 1) (drop (p + 1) t))
+    let p = place (ascii "P") t in
+    unless (has (ascii "P") t && (ltb 0 p && allDigits (take p t))) NotAPaket (boundsOf (p + 1) (drop (p + 1) t))
 
 -- the answer on a text
 abbrev pub paketAnswer : List ℕ → Result Paket

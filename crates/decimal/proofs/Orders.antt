@@ -11,9 +11,9 @@ use lib.ListN.{length}
 use lib.Dec.{ltb, eqb}
 use borrow.Author.Tests.{lt-ltb, le-ltb, eqb-true, eqb-false}
 use Rattle.laws.specs.Tests.{and-both}
-use Rattle.text.specs.Bytes.{all, begins}
-use Rattle.text.specs.Digits.{isDigit, allDigits, natFrom, natOf}
-use Rattle.text.proofs.Numbers.{digit-range, nat-append, nat-ge, nat-shift, nat-lt}
+use Rattle.text.specs.Bytes.{all}
+use Rattle.text.specs.Digits.{isDigit, allDigits, natFrom, natOf, plusWidth}
+use Rattle.text.proofs.Numbers.{digit-range, nat-append, nat-ge, nat-shift, nat-lt, plus-le}
 use Rattle.decimal.specs.declared.Order.the-variants.{Less, Equal, Greater}
 use Rattle.decimal.specs.Decimal.{isNegative, signWidth, isZero, orderℕ, orderOf, signed, isNumber, integerOf, fractionOf}
 use Rattle.decimal.specs.Signs.{bySign, flip, apart}
@@ -139,9 +139,8 @@ number-digits s e =
 
 pub sign-le : (s : List ℕ) → signWidth s ≤ length s
 sign-le [] = omega arith
-sign-le (b ∷ s) = go (isNegative (b ∷ s)) (begins (43 ∷ []) (b ∷ s))
+sign-le (b ∷ s) = go (isNegative (b ∷ s))
   where
-    go : (t u : Bool) → cond t 1 (cond u 1 0) ≤ suc (length s)
-    go true u = omega arith
-    go false true = omega arith
-    go false false = omega arith
+    go : (t : Bool) → cond t 1 (plusWidth (b ∷ s)) ≤ suc (length s)
+    go true = omega arith
+    go false = plus-le (b ∷ s)

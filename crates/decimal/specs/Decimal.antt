@@ -4,18 +4,19 @@ use mathlib.Core.List.{List, [], _∷_, _++_}
 use mathlib.Core.Bool.{Bool, true, false, cond, _&&_}
 use lib.ListN.{length, take, drop}
 use lib.Dec.{ltb, leb, eqb}
+use Rattle.text.specs.Quoted.{ascii}
 use Rattle.text.specs.Bytes.{all, begins, place}
-use Rattle.text.specs.Digits.{allDigits, natOf}
+use Rattle.text.specs.Digits.{allDigits, natOf, plusWidth}
 use Rattle.decimal.specs.declared.Order.{Order}
 use Rattle.decimal.specs.declared.Order.the-variants.{Less, Equal, Greater, NoNumber}
 
 -- a `-` stands first
 abbrev pub isNegative : List ℕ → Bool
-isNegative s = begins (45 ∷ []) s
+isNegative s = begins (ascii "-") s
 
 -- the width of a leading `-` or `+`
 abbrev pub signWidth : List ℕ → ℕ
-signWidth s = cond (isNegative s) 1 (cond (begins (43 ∷ []) s) 1 0)
+signWidth s = cond (isNegative s) 1 (plusWidth s)
 
 -- what follows the sign
 abbrev pub unsignedOf : List ℕ → List ℕ
@@ -23,11 +24,11 @@ unsignedOf s = drop (signWidth s) s
 
 -- what stands before the first point
 unfoldable pub integerOf : List ℕ → List ℕ
-integerOf s = take (place (46 ∷ []) (unsignedOf s)) (unsignedOf s)
+integerOf s = take (place (ascii ".") (unsignedOf s)) (unsignedOf s)
 
 -- what stands after the first point
 unfoldable pub fractionOf : List ℕ → List ℕ
-fractionOf s = drop (place (46 ∷ []) (unsignedOf s) + 1) (unsignedOf s)
+fractionOf s = drop (place (ascii ".") (unsignedOf s) + 1) (unsignedOf s)
 
 -- a number: a sign or none, digits with at most one point, at least one digit
 abbrev pub isNumber : List ℕ → Bool

@@ -54,10 +54,7 @@ fn sign_width(s: &[u8]) -> usize
     if is_negative(s) {
         return 1;
     }
-    if text::begins_at(s, 0, b"+") {
-        return 1;
-    }
-    0
+    text::plus_width(s)
 }
 
 fn unsigned(s: &[u8]) -> &[u8]

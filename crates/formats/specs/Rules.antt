@@ -4,8 +4,10 @@ use mathlib.Core.List.{List, [], _∷_}
 use mathlib.Core.Bool.{Bool, true, false, not, _&&_, _||_}
 use lib.ListN.{length, take, drop}
 use lib.Dec.{leb, eqb}
+use Rattle.text.specs.Quoted.{ascii}
 use Rattle.text.specs.Bytes.{all, begins, ends, has}
 use Rattle.text.specs.Digits.{allDigits}
+use Rattle.utf8.specs.White.{among}
 use Rattle.utf8.specs.Utf8.{isUtf8, decode, charCount}
 use Rattle.decimal.specs.Decimal.{isNumber, against, integerAtMost, fractionAtMost, isInteger}
 use Rattle.decimal.specs.declared.Order.{Order}
@@ -48,7 +50,7 @@ meets NotExactly o = isLess o || isGreater o
 
 -- one group of so many digits and the `-` after it stand in front
 abbrev pub groupAhead : ℕ → List ℕ → Bool
-groupAhead width s = allDigits (take width s) && begins (45 ∷ []) (drop width s)
+groupAhead width s = allDigits (take width s) && begins (ascii "-") (drop width s)
 
 -- groups of so many digits each, joined by `-`
 unfoldable pub digitGroups : List ℕ → List ℕ → Bool
@@ -58,12 +60,11 @@ digitGroups (w ∷ v ∷ ws) s = groupAhead w s && digitGroups (v ∷ ws) (drop 
 
 -- a lower-case letter of Latin-1
 abbrev pub isLower : ℕ → Bool
-isLower c =
-    (leb 0x61 c && leb c 0x7A) || (eqb c 0xAA || (eqb c 0xB5 || (eqb c 0xBA || ((leb 0xDF c && leb c 0xF6) || (leb 0xF8 c && leb c 0xFF)))))
+isLower c = among ((0x61, 0x7A) ∷ (0xAA, 0xAA) ∷ (0xB5, 0xB5) ∷ (0xBA, 0xBA) ∷ (0xDF, 0xF6) ∷ (0xF8, 0xFF) ∷ []) c
 
 -- what 918 admits: 20 to 7E and A0 to FF, without the lower-case letters
 unfoldable pub isUnocUpper : ℕ → Bool
-isUnocUpper c = ((leb 0x20 c && leb c 0x7E) || (leb 0xA0 c && leb c 0xFF)) && not (isLower c)
+isUnocUpper c = among ((0x20, 0x7E) ∷ (0xA0, 0xFF) ∷ []) c && not (isLower c)
 
 -- the rules, each for all of its parameters
 pub data Rule : Type 0 where
@@ -113,9 +114,9 @@ passes (lengthUpTo k) v = leb (charCount v) k
 passes (fieldIs at text) v = eqb (length v) 15 && (allDigits (take 12 v) && begins text (drop at v))
 passes (hhmmIn relation n) v = eqb (length v) 4 && (allDigits v && meets relation (against v false n))
 passes unocUpper v = isUtf8 v && all isUnocUpper (decode v)
-passes zzzUtc v = ends (43 ∷ 48 ∷ 48 ∷ []) v
-passes emailShape v = has (64 ∷ []) v && has (46 ∷ []) v
-passes phoneShape v = leb 2 (length v) && (begins (43 ∷ []) v && allDigits (drop 1 v))
+passes zzzUtc v = ends (ascii "+00") v
+passes emailShape v = has (ascii "@") v && has (ascii ".") v
+passes phoneShape v = leb 2 (length v) && (begins (ascii "+") v && allDigits (drop 1 v))
 passes (boundaryAt summer winter) v = dayBoundary summer winter v
 passes (boundaryOf summer winter summer2 winter2) v = dayBoundary summer winter v || dayBoundary summer2 winter2 v
 

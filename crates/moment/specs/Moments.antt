@@ -4,6 +4,7 @@ use mathlib.Core.List.{List, [], _∷_}
 use mathlib.Core.Bool.{Bool, false, cond, _&&_}
 use lib.ListN.{length, take, drop}
 use lib.Dec.{leb}
+use Rattle.text.specs.Quoted.{ascii}
 use Rattle.text.specs.Bytes.{begins, ends, part}
 use Rattle.text.specs.Digits.{digitsUpTo, numberUpTo}
 use Rattle.text.specs.declared.Found.{Found}
@@ -28,7 +29,7 @@ earlier Nothing = Nothing
 
 -- the year that four bytes give, maybe with a sign
 abbrev pub signedYear : List ℕ → Found
-signedYear t = cond (begins (45 ∷ []) t) (earlier (digitsUpTo 999 (drop 1 t))) (later (numberUpTo 9999 t))
+signedYear t = cond (begins (ascii "-") t) (earlier (digitsUpTo 999 (drop 1 t))) (later (numberUpTo 9999 t))
 
 -- the year: the first four bytes
 unfoldable pub yearOf : List ℕ → Found
@@ -58,4 +59,4 @@ boundary (At y m d h i) summer winter v = cond (isMesz y m d h i) (begins summer
 
 -- a day boundary: the value ends `+00`, and the hours and minutes are those of the season
 unfoldable pub dayBoundary : List ℕ → List ℕ → List ℕ → Bool
-dayBoundary summer winter v = ends (43 ∷ 48 ∷ 48 ∷ []) v && boundary (momentOf v) summer winter v
+dayBoundary summer winter v = ends (ascii "+00") v && boundary (momentOf v) summer winter v

@@ -5,6 +5,7 @@ use mathlib.Core.List.{List, [], _∷_}
 use mathlib.Core.Bool.{cond}
 use lib.ListN.{length, take, drop}
 use lib.Dec.{ltb}
+use Rattle.text.specs.Quoted.{ascii}
 use Rattle.text.specs.Bytes.{place}
 use Rattle.protocol.specs.Hex.{Decoded, bytes, noBytes, fieldBytes}
 use Rattle.protocol.specs.declared.Field.{Field}
@@ -32,7 +33,7 @@ Within n xs = (n ≤ length xs) × (n ≡ length (take n xs))
 
 -- how many bytes stand before the first space
 abbrev pub fieldWidth : List ℕ → ℕ
-fieldWidth s = place (32 ∷ []) s
+fieldWidth s = place (ascii " ") s
 
 -- a byte string with the place where its field ends
 abbrev pub ending : ℕ → Decoded → Next

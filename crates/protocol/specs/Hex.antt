@@ -4,6 +4,7 @@ use mathlib.Core.List.{List, [], _∷_}
 use mathlib.Core.Bool.{Bool, cond, _&&_}
 use lib.ListN.{length, take}
 use lib.Dec.{ltb, eqb}
+use Rattle.text.specs.Quoted.{ascii}
 use Rattle.text.specs.Bytes.{same}
 use Rattle.protocol.specs.declared.Filled.{Filled}
 
@@ -27,7 +28,7 @@ hexOf (b ∷ s) = digitOf (b / 16) ∷ digitOf (b % 16) ∷ hexOf s
 
 -- a byte string as a field
 abbrev pub fieldOf : List ℕ → List ℕ
-fieldOf [] = 45 ∷ []
+fieldOf [] = ascii "-"
 fieldOf (b ∷ s) = hexOf (b ∷ s)
 
 -- a byte before others
@@ -47,7 +48,7 @@ pairs (a ∷ b ∷ s) = cond (isPair a b) (led (digitValue a * 16 + digitValue b
 
 -- the byte string that a field writes: `-`, or one pair and more
 abbrev pub fieldBytes : List ℕ → Decoded
-fieldBytes f = cond (same (45 ∷ []) f) (bytes []) (cond (eqb (length f) 0) noBytes (pairs f))
+fieldBytes f = cond (same (ascii "-") f) (bytes []) (cond (eqb (length f) 0) noBytes (pairs f))
 
 -- what was put at the start of a lent buffer
 abbrev pub filledSaid : Filled → List ℕ → Decoded

@@ -3,6 +3,7 @@ use Prim.Native.Nat.{ℕ, _-_}
 use mathlib.Core.Bool.{Bool, true, false, cond}
 use mathlib.Core.List.{List, [], _∷_, _++_}
 use lib.ListN.{length, getD, replicate}
+use Rattle.text.specs.Quoted.{ascii}
 use Rattle.text.specs.Bytes.{same}
 use Rattle.refusal.specs.Result.{Result, ok, refuse}
 use Rattle.refusal.specs.declared.Refusal.the-variants.{NoStatusWord}
@@ -24,13 +25,13 @@ codeOf K = 6
 
 -- the bytes of a status word
 abbrev pub wordOf : StatusKind → List ℕ
-wordOf Muss = 0x4D ∷ 0x75 ∷ 0x73 ∷ 0x73 ∷ []
-wordOf Soll = 0x53 ∷ 0x6F ∷ 0x6C ∷ 0x6C ∷ []
-wordOf Kann = 0x4B ∷ 0x61 ∷ 0x6E ∷ 0x6E ∷ []
-wordOf X = 0x58 ∷ []
-wordOf M = 0x4D ∷ []
-wordOf S = 0x53 ∷ []
-wordOf K = 0x4B ∷ []
+wordOf Muss = ascii "Muss"
+wordOf Soll = ascii "Soll"
+wordOf Kann = ascii "Kann"
+wordOf X = ascii "X"
+wordOf M = ascii "M"
+wordOf S = ascii "S"
+wordOf K = ascii "K"
 
 -- all kinds, in the order of their codes
 abbrev pub kinds : List StatusKind

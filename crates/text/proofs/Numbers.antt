@@ -12,8 +12,7 @@ use lib.Seq.{drop-cons}
 use lib.Dec.{ltb, leb}
 use borrow.Author.Tests.{lt-ltb, le-leb, lt-leb, leb-true}
 use Rattle.laws.specs.Tests.{and-both}
-use Rattle.text.specs.Bytes.{begins}
-use Rattle.text.specs.Digits.{isDigit, allDigits, natFrom, natOf, digitsUpTo, plusWidth, numberUpTo}
+use Rattle.text.specs.Digits.{isDigit, allDigits, natFrom, natOf, digitsUpTo, hasPlus, plusWidth, numberUpTo}
 use Rattle.text.specs.declared.Found.the-variants.{Number, Nothing}
 
 pub digit-low : (b : ℕ) → b < 48 → isDigit b ≡ false
@@ -107,7 +106,7 @@ over most n s i h l = omega (arith, nat-ge (n * 10 + (getD s i 0 - 48)) (drop (i
 
 pub plus-le : (s : List ℕ) → plusWidth s ≤ length s
 plus-le [] = omega arith
-plus-le (b ∷ s) = go (begins (43 ∷ []) (b ∷ s))
+plus-le (b ∷ s) = go (hasPlus (b ∷ s))
   where
     go : (t : Bool) → cond t 1 0 ≤ suc (length s)
     go true = omega arith

@@ -4,6 +4,7 @@ use mathlib.Core.List.{List, [], _∷_}
 use mathlib.Core.Bool.{Bool, cond, _&&_}
 use lib.ListN.{length, drop}
 use lib.Dec.{ltb, leb}
+use Rattle.text.specs.Quoted.{ascii}
 use Rattle.text.specs.Bytes.{all, begins}
 use Rattle.text.specs.declared.Found.{Found}
 use Rattle.text.specs.declared.Found.the-variants.{Number, Nothing}
@@ -29,9 +30,13 @@ natOf s = natFrom 0 s
 abbrev pub digitsUpTo : ℕ → List ℕ → Found
 digitsUpTo most s = cond (ltb 0 (length s) && (allDigits s && leb (natOf s) most)) (Number (natOf s)) Nothing
 
+-- a `+` stands first
+abbrev pub hasPlus : List ℕ → Bool
+hasPlus s = begins (ascii "+") s
+
 -- the width of a leading `+`
 abbrev pub plusWidth : List ℕ → ℕ
-plusWidth s = cond (begins (43 ∷ []) s) 1 0
+plusWidth s = cond (hasPlus s) 1 0
 
 -- the same after one `+` or none
 unfoldable pub numberUpTo : ℕ → List ℕ → Found

@@ -1,2 +1,3 @@
+pub mod Quoted
 pub mod Bytes
 pub mod Digits

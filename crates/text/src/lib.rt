@@ -3,7 +3,7 @@ ghost use mathlib.Core.Path.{_≡_};
 ghost use Prim.Native.Nat.{_+_, _≤_, _<_};
 ghost use lib.ListN.{length, take, drop};
 ghost use Rattle.text.specs.Bytes.{begins, ends, same, place, part};
-ghost use Rattle.text.specs.Digits.{isDigit, allDigits, plusWidth, digitsUpTo, numberUpTo};
+ghost use Rattle.text.specs.Digits.{isDigit, allDigits, hasPlus, plusWidth, digitsUpTo, numberUpTo};
 
 // A number, or none.
 pub enum Found {
@@ -143,10 +143,17 @@ pub fn digits_up_to(s: &[u8], most: u64) -> Found
     Found::Number(n)
 }
 
-fn plus_width(s: &[u8]) -> usize
+fn has_plus(s: &[u8]) -> bool
+    ensures { λ r. ⌜ r ≡ hasPlus (now (s .entry)) ⌝ }
+{
+    begins_at(s, 0, b"+")
+}
+
+// The width of a leading `+`.
+pub fn plus_width(s: &[u8]) -> usize
     ensures { λ r. ⌜ r ≡ plusWidth (now (s .entry)) ⌝ }
 {
-    if begins_at(s, 0, b"+") {
+    if has_plus(s) {
         return 1;
     }
     0
