@@ -1,5 +1,5 @@
 -- The number that is answered determines the answer. Assumes nothing.
-use mathlib.Core.Path.{_≡_, sym, ap, _∙_}
+use mathlib.Core.Path.{_≡_, ap, _∙_}
 use mathlib.Core.List.{List}
 use Prim.Native.Nat.{ℕ, _≤_, _<_}
 use native.Mathlib.Omega.{arith}
@@ -8,15 +8,11 @@ use Rattle.laws.specs.Tests.{cond-both}
 use Rattle.refusal.specs.Result.{Result, ok, refused}
 use Rattle.status.specs.declared.StatusKind.{StatusKind}
 use Rattle.status.specs.declared.StatusKind.the-variants.{Muss, Soll, Kann, X, M, S, K}
-use Rattle.status.specs.Status.{codeOf}
-use Rattle.status.proofs.Laws.{code-injective}
+use Rattle.status.specs.Status.{codeOf, code-injective}
 use Rattle.utf8.specs.Limits.{valueLimit}
-use Rattle.citation.specs.declared.Truth.{Truth}
-use Rattle.citation.specs.Truths.{truthNumber}
+use Rattle.citation.specs.Truths.{truthNumber, truth-number-injective}
 use Rattle.grammar.specs.Bytes.{treeOf}
 use Rattle.grammar.specs.Outcome.{answerOf, StatusSaid, wordAlone, withTree, parseAnswer, statusAnswer}
-use Rattle.semantics.specs.Presence.{answered}
-use Rattle.semantics.specs.Sentences.{answered-truth}
 use Rattle.semantics.specs.Truth.{truth}
 use Rattle.semantics.specs.Answers.{evalAnswer, truthAnswer, violationsAnswer}
 use Rattle.ahb.specs.Numbers.{acceptedFrom, presentFrom, answerNumber, ReadSaid, expression, status, saidNumber, readNumber, presenceNumber, verdictNumber}
@@ -26,11 +22,11 @@ use Rattle.ahb.specs.Sizes.{Short, ShortStatus, CountFew, answer-among, 
 
 module _ {A : Type 0} (least : ℕ) (number : A → ℕ) (P : A → Type 0) (same : (a b : A) → P a → P b → number a ≡ number b → a ≡ b) where
   -- a number over the refusals' tells the answer, if the answers' numbers do
-  pub number-injective : lastRefusal < least → (a b : Result A) → Among P a → Among P b → answerNumber least number a ≡ answerNumber least number b → a ≡ b
-  number-injective l (ok a) (ok b) p q h = ap ok (same a b p q (omega (arith, h)))
-  number-injective l (ok a) (refused k) p q h = absurd (omega (arith, l, named-most (q .0), q .1, h))
-  number-injective l (refused k) (ok a) p q h = absurd (omega (arith, l, named-most (p .0), p .1, h))
-  number-injective l (refused j) (refused k) p q h = ap refused h
+  pub answer-number-injective : lastRefusal < least → (a b : Result A) → Among P a → Among P b → answerNumber least number a ≡ answerNumber least number b → a ≡ b
+  answer-number-injective l (ok a) (ok b) p q h = ap ok (same a b p q (omega (arith, h)))
+  answer-number-injective l (ok a) (refused k) p q h = absurd (omega (arith, l, named-most (q .0), q .1, h))
+  answer-number-injective l (refused k) (ok a) p q h = absurd (omega (arith, l, named-most (p .0), p .1, h))
+  answer-number-injective l (refused j) (refused k) p q h = ap refused h
 
 code-most : (k : StatusKind) → codeOf k ≤ 6
 code-most Muss = omega arith
@@ -42,11 +38,11 @@ code-most S = omega arith
 code-most K = omega arith
 
 -- a status by its number
-status-injective : (a b : StatusSaid) → ShortStatus a → ShortStatus b → saidNumber (status a) ≡ saidNumber (status b) → a ≡ b
-status-injective (wordAlone j) (wordAlone k) p q h = ap wordAlone (code-injective j k (omega (arith, h)))
-status-injective (wordAlone j) (withTree k n) p q h = absurd (omega (arith, h, q .0, q .1))
-status-injective (withTree j m) (wordAlone k) p q h = absurd (omega (arith, h, p .0, p .1))
-status-injective (withTree j m) (withTree k n) p q h =
+status-number-injective : (a b : StatusSaid) → ShortStatus a → ShortStatus b → saidNumber (status a) ≡ saidNumber (status b) → a ≡ b
+status-number-injective (wordAlone j) (wordAlone k) p q h = ap wordAlone (code-injective j k (omega (arith, h)))
+status-number-injective (wordAlone j) (withTree k n) p q h = absurd (omega (arith, h, q .0, q .1))
+status-number-injective (withTree j m) (wordAlone k) p q h = absurd (omega (arith, h, p .0, p .1))
+status-number-injective (withTree j m) (withTree k n) p q h =
     let code : codeOf j ≡ codeOf k = omega (arith, h, p .1, q .1) in
     let kind = code-injective j k code in
     let size : m ≡ n = omega (arith, h, code) in
@@ -62,15 +58,15 @@ abbrev pub ShortSaid : ReadSaid → Type 0
 ShortSaid (expression n) = Short n
 ShortSaid (status s) = ShortStatus s
 
-said-injective : (a b : ReadSaid) → ShortSaid a → ShortSaid b → saidNumber a ≡ saidNumber b → a ≡ b
-said-injective (expression m) (expression n) p q h = ap expression (omega (arith, h))
-said-injective (expression m) (status s) p q h = absurd (omega (arith, h, status-below s q))
-said-injective (status s) (expression n) p q h = absurd (omega (arith, h, status-below s p))
-said-injective (status s) (status t) p q h = ap status (status-injective s t p q h)
+said-number-injective : (a b : ReadSaid) → ShortSaid a → ShortSaid b → saidNumber a ≡ saidNumber b → a ≡ b
+said-number-injective (expression m) (expression n) p q h = ap expression (omega (arith, h))
+said-number-injective (expression m) (status s) p q h = absurd (omega (arith, h, status-below s q))
+said-number-injective (status s) (expression n) p q h = absurd (omega (arith, h, status-below s p))
+said-number-injective (status s) (status t) p q h = ap status (status-number-injective s t p q h)
 
 -- the number of a reading whose length fits, or of a refusal of the table, is that of no other
 pub read-number-injective : (a b : Result ReadSaid) → Among ShortSaid a → Among ShortSaid b → readNumber a ≡ readNumber b → a ≡ b
-read-number-injective = number-injective acceptedFrom saidNumber ShortSaid said-injective (omega arith)
+read-number-injective = answer-number-injective acceptedFrom saidNumber ShortSaid said-number-injective (omega arith)
 
 -- every reading is of these
 pub read-among : (mode : ℕ) (text : List ℕ) (n : ℕ) → Among ShortSaid (answerOf (readAnswer mode text) n)
@@ -85,15 +81,11 @@ pub read-determined : (mode mode′ : ℕ) (text text′ : List ℕ) (n n′ : �
     → readNumber (answerOf (readAnswer mode text) n) ≡ readNumber (answerOf (readAnswer mode′ text′) n′) → answerOf (readAnswer mode text) n ≡ answerOf (readAnswer mode′ text′) n′
 read-determined mode mode′ text text′ n n′ = read-number-injective _ _ (read-among mode text n) (read-among mode′ text′ n′)
 
--- a truth by its number
-pub truth-injective : (a b : Truth) → truthNumber a ≡ truthNumber b → a ≡ b
-truth-injective a b h = let one : ok a ≡ ok b = sym (answered-truth a) ∙ ap answered h ∙ answered-truth b in cc
-
 -- what `ahb_presence` answers tells the presence
 pub presence-determined : (tree tree′ answers answers′ : List ℕ)
     → presenceNumber (evalAnswer tree answers) ≡ presenceNumber (evalAnswer tree′ answers′) → evalAnswer tree answers ≡ evalAnswer tree′ answers′
 presence-determined tree tree′ answers answers′ =
-    number-injective presentFrom truthNumber (λ _. Unit {0}) (λ a b _ _. truth-injective a b) (omega arith) _ _ (eval-known tree answers) (eval-known tree′ answers′)
+    answer-number-injective presentFrom truthNumber (λ _. Unit {0}) (λ a b _ _. truth-number-injective a b) (omega arith) _ _ (eval-known tree answers) (eval-known tree′ answers′)
 
 truth-known : (tree value : List ℕ) → Known (truthAnswer tree value)
 unfolding truthAnswer
@@ -109,6 +101,6 @@ pub verdicts-determined : (mode mode′ : ℕ) (tree tree′ value value′ : Li
     → verdictNumber (answerOf (verdictsAnswer mode tree value) n) ≡ verdictNumber (answerOf (verdictsAnswer mode′ tree′ value′) n′)
     → answerOf (verdictsAnswer mode tree value) n ≡ answerOf (verdictsAnswer mode′ tree′ value′) n′
 verdicts-determined mode mode′ tree tree′ value value′ n n′ =
-    number-injective acceptedFrom (λ k. k) (λ _. Unit {0}) (λ a b _ _ h. h) (omega arith) _ _
+    answer-number-injective acceptedFrom (λ k. k) (λ _. Unit {0}) (λ a b _ _ h. h) (omega arith) _ _
     (answer-among (λ _. Unit {0}) (verdictsAnswer mode tree value) n (verdicts-known mode tree value))
     (answer-among (λ _. Unit {0}) (verdictsAnswer mode′ tree′ value′) n′ (verdicts-known mode′ tree′ value′))

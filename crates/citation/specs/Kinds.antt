@@ -1,8 +1,12 @@
 -- The kind of a citation (document 01, `ConditionKind::of`). Assumes nothing.
+use lib.ListN.{getD}
+use mathlib.Core.Path.{refl, ap}
+use mathlib.Mathlib.Logic.Function.Defs.{Injective, LeftInverse, LeftInverse·injective}
 use Prim.Native.Nat.{ℕ}
 use mathlib.Core.List.{List, [], _∷_}
 use mathlib.Core.Bool.{cond}
-use Rattle.refusal.specs.Result.{Result, ok, refuse}
+use Rattle.refusal.specs.Refusals.{number-back}
+use Rattle.refusal.specs.Result.{Result, ok, refuse, said-injective}
 use Rattle.text.specs.Quoted.{ascii}
 use Rattle.text.specs.Bytes.{begins, has}
 use Rattle.text.specs.Digits.{numberUpTo}
@@ -24,6 +28,24 @@ kindNumber Wiederholbarkeit = 3
 kindNumber Zeitpunkt = 4
 kindNumber Paket = 5
 kindNumber Other = 6
+
+-- the kind with this number; Other for what is none's
+abbrev pub conditionKindAt : ℕ → ConditionKind
+conditionKindAt n = getD (Voraussetzung ∷ Hinweis ∷ Format ∷ Wiederholbarkeit ∷ Zeitpunkt ∷ Paket ∷ []) n Other
+
+-- from a kind to its number and back
+kind-back : LeftInverse conditionKindAt kindNumber
+kind-back Voraussetzung = refl
+kind-back Hinweis = refl
+kind-back Format = refl
+kind-back Wiederholbarkeit = refl
+kind-back Zeitpunkt = refl
+kind-back Paket = refl
+kind-back Other = refl
+
+-- different kinds have different numbers
+pub kind-number-injective : Injective kindNumber
+kind-number-injective = LeftInverse·injective conditionKindAt kindNumber kind-back
 
 -- the kind by the number's range
 unfoldable pub kindOfNumber : ℕ → ConditionKind
@@ -55,3 +77,7 @@ kindAnswer t = admitted textLimit t (ok (kindOf t))
 abbrev pub kindSaid : KindAnswer → Result ConditionKind
 kindSaid (Known k) = ok k
 kindSaid (Refused why) = refuse why
+
+-- what is said determines the answer
+pub kind-said-injective : Injective kindSaid
+kind-said-injective = said-injective Known Refused kindSaid λ a. elim a [ Known k ↦ refl | Refused why ↦ ap Refused (number-back why) ]

@@ -1,10 +1,13 @@
 -- The bounds of a Paket citation (document 01, `Paket::parse`). Assumes nothing.
+use mathlib.Core.Path.{refl, ap}
+use mathlib.Mathlib.Logic.Function.Defs.{Injective}
 use Prim.Native.Nat.{ℕ, _+_}
 use mathlib.Core.List.{List, [], _∷_}
 use mathlib.Core.Bool.{true, false, cond, _&&_}
 use lib.ListN.{length, take, drop}
 use lib.Dec.{ltb, eqb}
-use Rattle.refusal.specs.Result.{Result, ok, refuse, unless}
+use Rattle.refusal.specs.Refusals.{number-back}
+use Rattle.refusal.specs.Result.{Result, ok, refuse, unless, said-injective}
 use Rattle.refusal.specs.declared.Refusal.the-variants.{NotAPaket}
 use Rattle.text.specs.Quoted.{ascii}
 use Rattle.text.specs.Bytes.{same, place, has}
@@ -62,3 +65,7 @@ paketAnswer t = admitted textLimit t (paketOf t)
 abbrev pub paketSaid : PaketAnswer → Result Paket
 paketSaid (Read p) = ok p
 paketSaid (Refused why) = refuse why
+
+-- what is said determines the answer
+pub paket-said-injective : Injective paketSaid
+paket-said-injective = said-injective Read Refused paketSaid λ a. elim a [ Read p ↦ refl | Refused why ↦ ap Refused (number-back why) ]

@@ -1,8 +1,12 @@
 -- What `evaluate` and `is_registered` answer. Assumes nothing.
+use lib.ListN.{getD}
+use mathlib.Core.Path.{refl, ap}
+use mathlib.Mathlib.Logic.Function.Defs.{Injective, LeftInverse, LeftInverse·injective}
 use Prim.Native.Nat.{ℕ}
-use mathlib.Core.List.{List}
+use mathlib.Core.List.{List, [], _∷_}
 use mathlib.Core.Bool.{Bool, true, false}
-use Rattle.refusal.specs.Result.{Result, ok, refuse}
+use Rattle.refusal.specs.Refusals.{number-back}
+use Rattle.refusal.specs.Result.{Result, ok, refuse, said-injective}
 use Rattle.utf8.specs.Limits.{textLimit, valueLimit, admitted}
 use Rattle.citation.specs.declared.Truth.{Truth}
 use Rattle.citation.specs.declared.Truth.the-variants.{False, Unknown, True}
@@ -19,6 +23,20 @@ abbrev pub verdictNumber : FormatVerdict → ℕ
 verdictNumber Violated = 0
 verdictNumber Unregistered = 1
 verdictNumber Holds = 2
+
+-- the verdict with this number; Holds for what is none's
+abbrev pub verdictAt : ℕ → FormatVerdict
+verdictAt n = getD (Violated ∷ Unregistered ∷ []) n Holds
+
+-- from a verdict to its number and back
+verdict-back : LeftInverse verdictAt verdictNumber
+verdict-back Violated = refl
+verdict-back Unregistered = refl
+verdict-back Holds = refl
+
+-- different verdicts have different numbers
+pub verdict-number-injective : Injective verdictNumber
+verdict-number-injective = LeftInverse·injective verdictAt verdictNumber verdict-back
 
 -- a verdict other than Unregistered
 abbrev pub isVerdict : FormatVerdict → Bool
@@ -41,6 +59,11 @@ abbrev pub verdictSaid : VerdictAnswer → Result FormatVerdict
 verdictSaid (verdicts.Verdict v) = ok v
 verdictSaid (verdicts.Refused why) = refuse why
 
+-- what is said determines the answer
+pub verdict-said-injective : Injective verdictSaid
+verdict-said-injective =
+    said-injective verdicts.Verdict verdicts.Refused verdictSaid λ a. elim a [ verdicts.Verdict v ↦ refl | verdicts.Refused why ↦ ap verdicts.Refused (number-back why) ]
+
 -- the answer on a condition's text
 abbrev pub registeredAnswer : List ℕ → Result Bool
 registeredAnswer t = admitted textLimit t (ok (isRegistered t))
@@ -49,3 +72,8 @@ registeredAnswer t = admitted textLimit t (ok (isRegistered t))
 abbrev pub registeredSaid : RegisteredAnswer → Result Bool
 registeredSaid (registereds.Known b) = ok b
 registeredSaid (registereds.Refused why) = refuse why
+
+-- what is said determines the answer
+pub registered-said-injective : Injective registeredSaid
+registered-said-injective =
+    said-injective registereds.Known registereds.Refused registeredSaid λ a. elim a [ registereds.Known b ↦ refl | registereds.Refused why ↦ ap registereds.Refused (number-back why) ]

@@ -1,9 +1,10 @@
 -- An answer, or the number of a refusal. Assumes nothing.
 use mathlib.Core.Path.{_≡_, refl, subst}
+use mathlib.Mathlib.Logic.Function.Defs.{Injective, LeftInverse, LeftInverse·injective}
 use mathlib.Core.Bool.{Bool, true, false}
 use Prim.Native.Nat.{ℕ}
 use Rattle.refusal.specs.declared.Refusal.{Refusal}
-use Rattle.refusal.specs.Refusals.{numberOf}
+use Rattle.refusal.specs.Refusals.{numberOf, refusalAt, number-injective}
 
 -- what a function answers: a value, or document 01's number of a refusal
 pub data Result (A : Type 0) : Type 0 where
@@ -19,6 +20,10 @@ module _ {A : Type 0} where
   abbrev pub unless : Bool → Refusal → Result A → Result A
   unless true why r = r
   unless false why r = refuse why
+
+  -- a refusal's number, as an answer, names the refusal
+  pub refuse-injective : Injective refuse
+  refuse-injective a b h = number-injective a b cc
 
   abbrev refusing : Result A → Type 0
   refusing (ok a) = ⊥
@@ -42,3 +47,13 @@ module _ {A B : Type 0} where
   unfoldable pub then : Result A → (A → Result B) → Result B
   then (ok a) f = f a
   then (refused k) f = refused k
+
+module _ {A X : Type 0} (value : A → X) (turned : Refusal → X) where
+  -- the answer of a function's own type that says this
+  abbrev pub saying : Result A → X
+  saying (ok a) = value a
+  saying (refused k) = turned (refusalAt k)
+
+  -- what such an answer says determines it, if it is got back from what it says
+  pub said-injective : (said : X → Result A) → LeftInverse saying said → Injective said
+  said-injective said back = LeftInverse·injective saying said back

@@ -1,4 +1,4 @@
--- Laws of the status words: a word and its kind, a kind and its code. Assumes nothing.
+-- Laws of the status words: a word and its kind. Assumes nothing.
 use Prim.Native.Nat.{ℕ, _+_, _-_, _≤_, _<_}
 use mathlib.Core.Path.{_≡_, refl, sym, ap, _∙_}
 use mathlib.Core.Bool.{Bool, true, false, cond}
@@ -12,7 +12,7 @@ use Rattle.text.specs.Bytes.{same}
 use Rattle.text.proofs.Laws.{same-equal}
 use Rattle.refusal.specs.Result.{ok, refuse, refused≢ok}
 use Rattle.refusal.specs.declared.Refusal.the-variants.{NoStatusWord}
-use Rattle.status.specs.Status.{codeOf, wordOf, kinds, kindAt, kindAmong, kindOfWord, wordHeld}
+use Rattle.status.specs.Status.{wordOf, kinds, kindAt, kindAmong, kindOfWord, wordHeld}
 use Rattle.status.specs.declared.StatusKind.{StatusKind}
 use Rattle.status.specs.declared.StatusKind.the-variants.{Muss, Soll, Kann, X, M, S, K}
 
@@ -42,19 +42,6 @@ among-word (j ∷ ks) w k h = go (same (wordOf j) w) refl h (among-word ks w k)
 pub word-sound : (w : List ℕ) (k : StatusKind) → kindOfWord w ≡ ok k → w ≡ wordOf k
 unfolding kindOfWord
 word-sound w k h = among-word kinds w k h
-
--- from a kind to its code and back
-pub code-round : (k : StatusKind) → kindAt (codeOf k) ≡ k
-code-round Muss = refl
-code-round Soll = refl
-code-round Kann = refl
-code-round X = refl
-code-round M = refl
-code-round S = refl
-code-round K = refl
-
-pub code-injective : (j k : StatusKind) → codeOf j ≡ codeOf k → j ≡ k
-code-injective j k e = sym (code-round j) ∙ ap kindAt e ∙ code-round k
 
 -- what is no code
 pub kind-past : (n : ℕ) → 6 ≤ n → kindAt n ≡ K

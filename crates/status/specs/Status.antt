@@ -1,11 +1,13 @@
 -- The status words, the code of each, and which of them a receiver may check (document 01, `Status::parse`). Assumes nothing.
+use mathlib.Core.Path.{refl}
+use mathlib.Mathlib.Logic.Function.Defs.{Injective, LeftInverse, LeftInverse·injective}
 use Prim.Native.Nat.{ℕ, _-_}
 use mathlib.Core.Bool.{Bool, true, false, cond}
 use mathlib.Core.List.{List, [], _∷_, _++_}
 use lib.ListN.{length, getD, replicate}
 use Rattle.text.specs.Quoted.{ascii}
 use Rattle.text.specs.Bytes.{same}
-use Rattle.refusal.specs.Result.{Result, ok, refuse}
+use Rattle.refusal.specs.Result.{Result, ok, refuse, said-injective}
 use Rattle.refusal.specs.declared.Refusal.the-variants.{NoStatusWord}
 use Rattle.status.specs.declared.StatusKind.{StatusKind}
 use Rattle.status.specs.declared.StatusKind.the-variants.{Muss, Soll, Kann, X, M, S, K}
@@ -41,6 +43,20 @@ kinds = Muss ∷ Soll ∷ Kann ∷ X ∷ M ∷ S ∷ K ∷ []
 abbrev pub kindAt : ℕ → StatusKind
 kindAt n = getD kinds n K
 
+-- from a kind to its code and back
+pub code-round : LeftInverse kindAt codeOf
+code-round Muss = refl
+code-round Soll = refl
+code-round Kann = refl
+code-round X = refl
+code-round M = refl
+code-round S = refl
+code-round K = refl
+
+-- different kinds have different codes
+pub code-injective : Injective codeOf
+code-injective = LeftInverse·injective kindAt codeOf code-round
+
 -- the first of the kinds that has this word
 unfoldable pub kindAmong : List StatusKind → List ℕ → Result StatusKind
 kindAmong [] w = refuse NoStatusWord
@@ -54,6 +70,10 @@ kindOfWord w = kindAmong kinds w
 abbrev pub wordSaid : WordAnswer → Result StatusKind
 wordSaid (Is k) = ok k
 wordSaid NoWord = refuse NoStatusWord
+
+-- what is said determines the answer
+pub word-said-injective : Injective wordSaid
+word-said-injective = said-injective Is (λ _. NoWord) wordSaid λ a. elim a [ Is k ↦ refl | NoWord ↦ refl ]
 
 -- a word of at most four bytes as a struct holds it: the bytes, then zeros, and their number
 abbrev pub wordHeld : List ℕ → Word

@@ -1,11 +1,14 @@
 -- Where a citation's text stands in tree bytes. Assumes nothing.
+use mathlib.Core.Path.{refl, ap}
+use mathlib.Mathlib.Logic.Function.Defs.{Injective}
 use mathlib.Core.List.{List, []}
 use mathlib.Core.Bool.{cond}
 use mathlib.Core.Option.{Option, none, some}
 use Prim.Native.Nat.{ℕ, _+_}
 use lib.Dec.{ltb}
 use lib.ListN.{length, getD, take}
-use Rattle.refusal.specs.Result.{Result, ok, refuse, map-ok}
+use Rattle.refusal.specs.Refusals.{number-back}
+use Rattle.refusal.specs.Result.{Result, ok, refuse, map-ok, said-injective}
 use Rattle.grammar.specs.Expr.{Expr, concat, citations, count}
 use Rattle.grammar.specs.Rows.{span}
 use Rattle.grammar.specs.Bytes.{textsFrom, treeOf}
@@ -29,3 +32,12 @@ abbrev pub citedSaid : CitedText → Result (Option (ℕ × ℕ))
 citedSaid (At start size) = ok (some (start, size))
 citedSaid Absent = ok none
 citedSaid (Refused why) = refuse why
+
+-- the answer that says this place, or none
+abbrev pub citedTold : Option (ℕ × ℕ) → CitedText
+citedTold (some p) = At (p .0) (p .1)
+citedTold none = Absent
+
+-- what is said determines the answer
+pub cited-said-injective : Injective citedSaid
+cited-said-injective = said-injective citedTold Refused citedSaid λ a. elim a [ At start size ↦ refl | Absent ↦ refl | Refused why ↦ ap Refused (number-back why) ]

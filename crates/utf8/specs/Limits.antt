@@ -1,9 +1,12 @@
 -- What is tested of every text and value before it is read: its length and its encoding (refusals 10 and 11). Assumes nothing.
 use Prim.Native.Nat.{ℕ}
+use mathlib.Core.Path.{refl, ap}
+use mathlib.Mathlib.Logic.Function.Defs.{Injective}
 use mathlib.Core.List.{List}
 use lib.ListN.{length}
 use lib.Dec.{leb}
-use Rattle.refusal.specs.Result.{Result, ok, refuse, unless}
+use Rattle.refusal.specs.Refusals.{number-back}
+use Rattle.refusal.specs.Result.{Result, ok, refuse, unless, said-injective}
 use Rattle.refusal.specs.declared.Refusal.the-variants.{TooLong, NotUtf8}
 use Rattle.utf8.specs.Utf8.{isUtf8}
 use Rattle.utf8.specs.declared.Admitted.{Admitted}
@@ -25,3 +28,7 @@ admitted most t r = unless (leb (length t) most) TooLong (unless (isUtf8 t) NotU
 abbrev pub admitSaid : Admitted → Result (Unit {0})
 admitSaid Fine = ok tt
 admitSaid (Refused why) = refuse why
+
+-- what is said determines the answer
+pub admit-said-injective : Injective admitSaid
+admit-said-injective = said-injective (λ _. Fine) Refused admitSaid λ a. elim a [ Fine ↦ refl | Refused why ↦ ap Refused (number-back why) ]
