@@ -17,7 +17,7 @@ use Rattle.laws.specs.Tests.{and-both}
 use Rattle.text.specs.Bytes.{all}
 use Rattle.text.specs.Digits.{isDigit, allDigits, natFrom, natOf}
 use Rattle.text.proofs.Numbers.{digit-range, nat-append, nat-shift, nat-lt}
-use Rattle.decimal.specs.declared.Order.the-variants.{Less, Equal, Greater}
+use Rattle.decimal.specs.declared.Order.the-variants.{Less, Equal, Greater, NoNumber}
 use Rattle.decimal.specs.Decimal.{isNegative, isZero, isNumber, integerOf, fractionOf, signed, exactOf, orderℕ, orderOf, Exact, against, integerDigits, fractionDigits, integerAtMost, fractionAtMost}
 use Rattle.decimal.specs.Signs.{flip}
 use Rattle.decimal.proofs.Orders.{nat-zeros, nat-some, order-lt, flip-order, number-digits}
@@ -27,6 +27,11 @@ use Rattle.decimal.proofs.Digits.{fraction-zeros, fraction-le}
 pub compared : (s : List ℕ) (below : Bool) (size : ℕ) → isNumber s ≡ true → against s below size ≡ orderOf (exactOf s) (signed below size 0)
 unfolding against
 compared s below size h = rw h
+
+-- what is no number stands in no order
+pub not-compared : (s : List ℕ) (below : Bool) (size : ℕ) → isNumber s ≡ false → against s below size ≡ NoNumber
+unfolding against
+not-compared s below size h = rw h
 
 -- the order is one: turned round, and transitive
 pub turned : (x y : Exact) → orderOf y x ≡ flip (orderOf x y)
@@ -180,6 +185,16 @@ module _ (w f : List ℕ) (k : ℕ) (hw : allDigits w ≡ true) (hf : allDigits 
 sized : (P : ℕ → ℕ → Type 0) (b : Bool) (n p : ℕ) → P n p → P (sizeOf (signed b n p)) (signed b n p .places)
 sized P true n p h = subst (λ (m : ℕ). P m p) (let e : n ≡ 0 + n = omega arith in e) h
 sized P false n p h = subst (λ (m : ℕ). P m p) (let e : n ≡ n + 0 = omega arith in e) h
+
+-- only a number has at most k integer digits
+pub integer-number : (s : List ℕ) (k : ℕ) → integerAtMost s k ≡ true → isNumber s ≡ true
+unfolding integerAtMost
+integer-number s k e = and-both (isNumber s) (leb (integerDigits (integerOf s)) k) e .0
+
+-- only a number has at most k fraction digits
+pub fraction-number : (s : List ℕ) (k : ℕ) → fractionAtMost s k ≡ true → isNumber s ≡ true
+unfolding fractionAtMost
+fraction-number s k e = and-both (isNumber s) (leb (fractionDigits (fractionOf s)) k) e .0
 
 -- at most k integer digits exactly if the value's size is below 10 ^ k
 pub integer-exact : (s : List ℕ) (k : ℕ) → isNumber s ≡ true → (integerAtMost s k ≡ true) ↔ (sizeOf (exactOf s) < 10 ^ k * 10 ^ (exactOf s .places))

@@ -1,2 +1,3 @@
+pub mod Marks
 pub mod Laws
 pub mod Ids

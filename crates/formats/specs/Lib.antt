@@ -1,3 +1,4 @@
 pub mod Rules
+pub mod Exact
 pub mod Table
 pub mod Answers

@@ -1,8 +1,10 @@
 -- The 47 format conditions, each with its rule, found by their exact text (document 01, corners of `formatbedingung.rs`). Assumes nothing.
 use Prim.Native.Nat.{ℕ, _+_, _-_, _*_}
 use Prim.Native.String.{String}
-use mathlib.Core.List.{List, [], _∷_, _++_}
-use mathlib.Core.Bool.{Bool, true, false, cond, _&&_}
+use mathlib.Core.Path.{_≡_, refl}
+use mathlib.Core.List.{List, [], _∷_, _++_, map}
+use lib.ListN.{length, replicate}
+use mathlib.Core.Bool.{Bool, true, false, cond, not, _&&_}
 use mathlib.Core.Option.{Option, none, some}
 use lib.Dec.{eqb}
 use Rattle.text.specs.Quoted.{ascii}
@@ -88,9 +90,13 @@ timeRules =
     ∷ row "UB3" (boundaryOf (ascii "2200") (ascii "2300") (ascii "0400") (ascii "0500"))
     ∷ []
 
--- all 47
+-- all conditions that are judged here
 abbrev pub rules : Rows
 rules = boundRules ++ (digitRules ++ (shapeRules ++ timeRules))
+
+-- they are 47
+pub rules-47 : length rules ≡ 47
+rules-47 = refl
 
 -- the rule of the condition with this text
 unfoldable pub ruleOf : Rows → List ℕ → Option Rule
@@ -114,6 +120,34 @@ isRule (some r) = true
 -- the condition with this text has an evaluator
 unfoldable pub isRegistered : List ℕ → Bool
 isRegistered t = isRule (ruleOf rules t)
+
+-- no text stands twice
+abbrev pub distinct : Rows → Bool
+distinct [] = true
+distinct (r ∷ rs) = not (isRule (ruleOf rs (r .0))) && distinct rs
+
+-- the 47 texts are all different
+pub rules-distinct : distinct rules ≡ true
+unfolding ruleOf
+rules-distinct = refl
+
+-- so each condition of the table has the rule of its row
+pub rules-found : map (λ r. ruleOf rules (r .0)) rules ≡ map (λ r. some (r .1)) rules
+unfolding ruleOf
+rules-found = refl
+
+-- the six conditions on identifiers, which are not judged here
+abbrev pub identifiers : List (List ℕ)
+identifiers = ascii "922" ∷ ascii "950" ∷ ascii "951" ∷ ascii "953" ∷ ascii "960" ∷ ascii "961" ∷ []
+
+-- texts that are a condition's but for a zero, a sign, a blank or the digit
+abbrev pub inexact : List (List ℕ)
+inexact = ascii "0902" ∷ ascii "+902" ∷ ascii " 902" ∷ ascii "UB4" ∷ ascii "UB01" ∷ []
+
+-- none of these has a rule, so they are Unregistered on every value
+pub no-rule : map (ruleOf rules) (identifiers ++ inexact) ≡ replicate 11 none
+unfolding ruleOf
+no-rule = refl
 
 -- a number that stands for a text of three digits or of UB and a digit, 0 for any other; the code looks conditions up by it
 abbrev pub idOf3 : ℕ → ℕ → ℕ → ℕ
