@@ -8,6 +8,7 @@ use lib.ListN.{length}
 use Rattle.laws.specs.Tests.{cond-both}
 use Rattle.refusal.specs.Result.{ok, refused, unless, unless-ok}
 use Rattle.refusal.specs.declared.Refusal.the-variants.{NoRoom, NotATree}
+use Rattle.refusal.specs.Known.{Among, unless-among, known-among, map-among, then-among}
 use Rattle.utf8.specs.Limits.{valueLimit, admitted}
 use Rattle.grammar.specs.Expr.{Expr, count}
 use Rattle.grammar.specs.Reading.{citationLimit, Fits, reading, reading-given}
@@ -16,6 +17,7 @@ use Rattle.grammar.specs.StatusLaws.{status-states}
 use Rattle.grammar.specs.Bytes.{bytesOf, isTree, treeAt, treeOf}
 use Rattle.grammar.specs.Theorems.{bytes-length, few-bytes}
 use Rattle.grammar.specs.Outcome.{Written, Outcome, answerOf, StatusSaid, wordAlone, withTree, statedBytes, parseAnswer, statusAnswer}
+use Rattle.grammar.specs.Known.{admitted-among, reading-known, status-known, tree-of-known}
 use Rattle.semantics.specs.Rules.{isFalse}
 use Rattle.semantics.specs.Truth.{truth}
 use Rattle.semantics.specs.Violations.{violated, violations}
@@ -23,7 +25,6 @@ use Rattle.semantics.specs.Sizes.{violated-few}
 use Rattle.semantics.specs.Answers.{numbered, violationsAnswer}
 use Rattle.tree.proofs.Walks.{root}
 use Rattle.ahb.specs.Numbers.{codeStep}
-use Rattle.ahb.specs.Known.{Among, unless-among, admitted-among, known-among, map-among, then-among, reading-known, status-known, tree-of-known}
 
 -- from 1 to less than a step of the code
 abbrev pub Short : ℕ → Type 0

@@ -16,7 +16,7 @@ ghost use Rattle.reader.specs.Said.{parseSaid, statusSaid};
 ghost use Rattle.verdicts.specs.Said.{truthSaid, violationsSaid};
 ghost use Rattle.ahb.specs.Numbers.{acceptedFrom, codeStep, coded, answerNumber, expressionNumber, statusNumber, readNumber, presenceNumber, verdictNumber};
 ghost use Rattle.ahb.specs.Answers.{readAnswer, verdictsAnswer};
-ghost use Rattle.ahb.specs.Known.{Among};
+ghost use Rattle.refusal.specs.Known.{Among};
 ghost use Rattle.ahb.specs.Sizes.{Short, ShortStatus, Few};
 
 // The least accepted answer of 64 bits, and of 32.

@@ -6,7 +6,8 @@ use Rattle.grammar.specs.Print.{printed}
 use Rattle.grammar.specs.Bytes.{treeOf}
 use Rattle.grammar.specs.Outcome.{answerOf, withLength, displayAnswer}
 use Rattle.grammar.specs.Theorems.{print-short}
-use Rattle.ahb.specs.Known.{Among, known-among, map-among, tree-of-known}
+use Rattle.refusal.specs.Known.{Among, known-among, map-among}
+use Rattle.grammar.specs.Known.{tree-of-known}
 use Rattle.ahb.specs.Sizes.{answer-among, tree-fits}
 use Rattle.grammar.specs.Reading.{printLimit}
 

@@ -5,7 +5,7 @@ ghost use lib.ListN.{length};
 ghost use Rattle.grammar.specs.Outcome.{answerOf, writtenOf, displayAnswer};
 ghost use Rattle.printer.specs.Said.{displaySaid};
 ghost use Rattle.ahb.specs.Numbers.{verdictNumber};
-ghost use Rattle.ahb.specs.Known.{Among};
+ghost use Rattle.refusal.specs.Known.{Among};
 ghost use Rattle.ahbprint.specs.Sizes.{Printable};
 
 // The least accepted answer.

@@ -25,4 +25,5 @@ pub mod Examples
 pub mod Sizes
 pub mod Never
 pub mod Theorems
+pub mod Known
 pub mod Outcome

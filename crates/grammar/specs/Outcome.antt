@@ -1,13 +1,13 @@
 -- What a function that writes into a lent buffer answers, and the buffer's bytes afterwards. Assumes nothing.
-use mathlib.Core.Path.{_≡_, _∙_, ap}
+use mathlib.Core.Path.{_≡_, refl, sym, _∙_, ap}
 use mathlib.Core.List.{List, [], _++_}
-use mathlib.Core.Bool.{cond}
+use mathlib.Core.Bool.{Bool, true, false, cond}
 use Prim.Native.Nat.{ℕ, _≤_, _<_}
 use lib.Dec.{leb}
 use lib.ListN.{length, take, drop}
 use lib.Seq.{take-append-seam}
-use borrow.Author.Tests.{le-leb, lt-leb}
-use Rattle.refusal.specs.Result.{Result, ok, refused, refuse, unless, then, map-ok}
+use borrow.Author.Tests.{leb-true, le-leb, lt-leb}
+use Rattle.refusal.specs.Result.{Result, ok, refused, refuse, unless, then, map-ok, refused≢ok, unless-ok}
 use Rattle.refusal.specs.declared.Refusal.the-variants.{NoRoom}
 use Rattle.status.specs.declared.StatusKind.{StatusKind}
 use Rattle.grammar.specs.Print.{printed}
@@ -88,3 +88,30 @@ module _ {A : Type 0} (w : Written A) where
   -- what is read back from a buffer that is long enough
   pub written-back : (old : List ℕ) → length (w .bytes) ≤ length old → take (length (w .bytes)) (writtenOf (ok w) old) ≡ w .bytes
   written-back old h = ap (take (length (w .bytes))) (written-fits old h) ∙ take-append-seam (w .bytes) (drop (length (w .bytes)) old)
+
+module _ {A : Type 0} where
+  -- what was accepted: the outcome with this answer and some bytes, for which there is room
+  pub record Accepted (o : Outcome A) (n : ℕ) (a : A) : Type 0 where
+    pub bytes : List ℕ
+    pub came : o ≡ ok (record { answer = a; bytes = bytes })
+    pub room : length bytes ≤ n
+
+  -- an accepted answer tells the outcome
+  pub accepted : (o : Outcome A) (n : ℕ) (a : A) → answerOf o n ≡ ok a → Accepted o n a
+  unfolding answerOf then
+  accepted (ok w) n a h =
+      let p = unless-ok (leb (length (w .bytes)) n) NoRoom (ok (w .answer)) a h in
+      let q : ok (w .answer) ≡ ok a = p .1 in
+      let s : w .answer ≡ a = cc in
+      record { bytes = w .bytes; came = ap (λ (x : A). ok (record { answer = x; bytes = w .bytes })) s; room = leb-true (length (w .bytes)) n (p .0) }
+  accepted (refused k) n a h = absurd (refused≢ok h)
+
+  -- a refused call leaves the buffer as it was
+  pub refused-keeps : (o : Outcome A) (old : List ℕ) (k : ℕ) → answerOf o (length old) ≡ refused k → writtenOf o old ≡ old
+  unfolding answerOf writtenOf then
+  refused-keeps (refused j) old k h = refl
+  refused-keeps (ok w) old k h = by (leb (length (w .bytes)) (length old)) h
+    where
+      by : (t : Bool) → unless t NoRoom (ok (w .answer)) ≡ refused k → cond t (w .bytes ++ drop (length (w .bytes)) old) old ≡ old
+      by true q = absurd (refused≢ok (sym q))
+      by false q = refl

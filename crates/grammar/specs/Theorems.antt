@@ -59,6 +59,13 @@ is-tree = trees.is-tree
 pub tree-is-bytes : (b : List ℕ) → IsBytes b → (e : Expr) → treeOf b ≡ ok e → (bytesOf e ≡ b) × Fits e
 tree-is-bytes = trees.tree-is-bytes
 
+-- bytes are a tree of an expression exactly if it fits and they are its bytes: the encoder and the limits say what a tree is
+pub tree-exactly : (b : List ℕ) → IsBytes b → (e : Expr) → (treeOf b ≡ ok e) ↔ (Fits e × (bytesOf e ≡ b))
+tree-exactly b i e = (
+  λ h. let t = tree-is-bytes b i e h in (t .1, t .0),
+  λ h. ap treeOf (sym (h .1)) ∙ tree-of-bytes e (h .0),
+)
+
 -- the length of tree bytes
 pub bytes-length : (e : Expr) → length (bytesOf e) ≡ headSize + rowSize * span e + citeSize * count e + length (concat (citations e))
 bytes-length = sizes.bytes-length

@@ -10,3 +10,4 @@ pub mod Sizes
 pub mod Flat
 pub mod Evaluated
 pub mod Unknown
+pub mod Known

@@ -56,38 +56,33 @@ two-filled (Unknown ∷ vs) = two-filled vs
 two-filled (True ∷ vs) = any-filled isTrue refl vs
 two-filled (Neutral ∷ vs) = two-filled vs
 
--- Or drops the Neutral values
-pub or-filled : (vs : List Truth) → orRule (filled vs) ≡ orRule vs
-unfolding orRule
-or-filled vs = rw (any-filled isTrue refl vs, any-filled isUnknown refl vs, any-filled isFalse refl vs)
+-- Or of values none of which is Neutral: none left is Neutral; else True if one is, else Unknown if one is, else False
+abbrev pub orOfFilled : List Truth → Truth
+orOfFilled [] = Neutral
+orOfFilled (v ∷ vs) = cond (any isTrue (v ∷ vs)) True (cond (any isUnknown (v ∷ vs)) Unknown False)
 
--- Xor drops the Neutral values
-pub xor-filled : (vs : List Truth) → xorRule (filled vs) ≡ xorRule vs
-unfolding xorRule
-xor-filled vs = rw (two-filled vs, any-filled isTrue refl vs, any-filled isUnknown refl vs, any-filled isFalse refl vs)
+-- Xor of such values: none left is Neutral; else False for two True or more, else Unknown if one is, else True for one True, False for none
+abbrev pub xorOfFilled : List Truth → Truth
+xorOfFilled [] = Neutral
+xorOfFilled (v ∷ vs) = cond (twoTrue (v ∷ vs)) False (cond (any isUnknown (v ∷ vs)) Unknown (cond (any isTrue (v ∷ vs)) True False))
 
--- none left: Neutral
-pub none-left : (orRule [] ≡ Neutral) × (xorRule [] ≡ Neutral)
-unfolding orRule xorRule twoTrue any
-none-left = (refl, refl)
-
--- with a value left, Or gives True, else Unknown, else False
-pub or-says : (v : Truth) (vs : List Truth) → isNeutral v ≡ false
-    → orRule (v ∷ vs) ≡ cond (any isTrue (v ∷ vs)) True (cond (any isUnknown (v ∷ vs)) Unknown False)
+-- Or drops the Neutral values, wherever they stand, and goes by those that are left
+pub or-says : (vs : List Truth) → orRule vs ≡ orOfFilled (filled vs)
 unfolding orRule any
-or-says False vs h = refl
-or-says Unknown vs h = refl
-or-says True vs h = refl
-or-says Neutral vs h = absurd (false≢true (sym h))
+or-says [] = refl
+or-says (False ∷ vs) = rw (any-filled isTrue refl vs, any-filled isUnknown refl vs)
+or-says (Unknown ∷ vs) = rw (any-filled isTrue refl vs)
+or-says (True ∷ vs) = refl
+or-says (Neutral ∷ vs) = or-says vs
 
--- with a value left, Xor gives False for two True or more, else Unknown, else True for one True and False for none
-pub xor-says : (v : Truth) (vs : List Truth) → isNeutral v ≡ false
-    → xorRule (v ∷ vs) ≡ cond (twoTrue (v ∷ vs)) False (cond (any isUnknown (v ∷ vs)) Unknown (cond (any isTrue (v ∷ vs)) True False))
+-- and so does Xor
+pub xor-says : (vs : List Truth) → xorRule vs ≡ xorOfFilled (filled vs)
 unfolding xorRule twoTrue any
-xor-says False vs h = refl
-xor-says Unknown vs h = refl
-xor-says True vs h = refl
-xor-says Neutral vs h = absurd (false≢true (sym h))
+xor-says [] = refl
+xor-says (False ∷ vs) = rw (two-filled vs, any-filled isUnknown refl vs, any-filled isTrue refl vs)
+xor-says (Unknown ∷ vs) = rw (two-filled vs)
+xor-says (True ∷ vs) = rw (any-filled isTrue refl vs, any-filled isUnknown refl vs)
+xor-says (Neutral ∷ vs) = xor-says vs
 
 -- an answer byte stands for the truth with its number
 pub answered-truth : (t : Truth) → answered (truthNumber t) ≡ ok t

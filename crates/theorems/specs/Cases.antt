@@ -1,8 +1,9 @@
--- Document 01's lines P1 to P12: one list, one proof. Assumes nothing.
+-- The cases P1 to P12 (document 01's numbering): one list, one proof. Assumes nothing.
 use mathlib.Core.Path.{_≡_, refl}
 use mathlib.Core.List.{List, [], _∷_}
 use Prim.Native.Nat.{ℕ}
 use Prim.Native.String.{String}
+use lib.ListN.{getD}
 use Rattle.refusal.specs.Result.{Result, ok, refuse, then, map-ok}
 use Rattle.refusal.specs.declared.Refusal.the-variants.{ChoiceOverNeutral, NoRoom}
 use Rattle.text.specs.Digits.{numberUpTo}
@@ -53,13 +54,17 @@ printOf t = then (reading (bytes t)) (λ e. map-ok (λ w. w .bytes) (displayAnsw
 abbrev pub presenceOf : String → List ℕ → Result Truth
 presenceOf t answers = then (reading (bytes t)) (λ e. evalAnswer (bytesOf e) answers)
 
+-- the kind of the first citation of what a text reads as
+abbrev pub kindIn : String → Result ConditionKind
+kindIn t = then (reading (bytes t)) (λ e. kindAnswer (getD (citations e) 0 []))
+
 abbrev c : String → Expr
 c s = cite (bytes s)
 
 abbrev verdictOn : String → String → Said
 verdictOn t v = verdictIs (verdictAnswer (bytes t) (bytes v))
 
--- each case: what the definitions say, and what document 01 says
+-- each case: what the definitions say, and what is wanted
 abbrev pub cases : List (Said × Said)
 cases =
     -- P1
@@ -90,8 +95,8 @@ cases =
     ∷ (verdictOn "UB1" "202603292200+00", verdictIs (ok Holds))
     ∷ (verdictOn "UB1" "202603292300+00", verdictIs (ok Violated))
     -- P12
-    ∷ (kindIs (kindAnswer (bytes "+5")), kindIs (ok Voraussetzung))
-    ∷ (kindIs (kindAnswer (bytes " 5")), kindIs (ok Other))
+    ∷ (kindIs (kindIn "[+5]"), kindIs (ok Voraussetzung))
+    ∷ (kindIs (kindIn "[ 5]"), kindIs (ok Other))
     ∷ []
 
 -- what the definitions say, in order
@@ -99,7 +104,7 @@ abbrev pub said : List (Said × Said) → List Said
 said [] = []
 said (x ∷ xs) = x .0 ∷ said xs
 
--- what document 01 says, in order
+-- what is wanted, in order
 abbrev pub wanted : List (Said × Said) → List Said
 wanted [] = []
 wanted (x ∷ xs) = x .1 ∷ wanted xs

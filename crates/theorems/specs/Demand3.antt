@@ -1,5 +1,5 @@
 -- Demand 3, at the bytes that the public functions take and write. Assumes nothing.
-use mathlib.Core.Path.{_≡_, refl, sym, ap, _∙_}
+use mathlib.Core.Path.{_≡_, refl, sym, ap, _∙_, subst}
 use mathlib.Core.List.{List, _++_}
 use mathlib.Core.Logic.{_↔_}
 use Prim.Native.Nat.{ℕ, _≤_, _<_}
@@ -9,15 +9,15 @@ use Rattle.refusal.specs.Result.{Result, ok, refused, refuse, then, map-ok, ref
 use Rattle.refusal.specs.declared.Refusal.the-variants.{NoRoom}
 use Rattle.status.specs.declared.StatusKind.{StatusKind}
 use Rattle.grammar.specs.Expr.{Expr}
-use Rattle.grammar.specs.Print.{printed}
-use Rattle.grammar.specs.Flat.{flat}
+use Rattle.grammar.specs.Print.{inBytes, printed}
+use Rattle.grammar.specs.Flat.{flat, print-flat}
 use Rattle.grammar.specs.Reading.{reading, Fits}
 use Rattle.grammar.specs.Status.{Stated, alone, stated, statusReading}
 use Rattle.grammar.specs.Bytes.{bytesOf, treeOf}
 use Rattle.grammar.specs.Theorems as grammar
 use Rattle.grammar.specs.Theorems.{WasRead, asExpression, afterStatus, read-fits, flat-fits, tree-of-bytes}
 use Rattle.semantics.specs.Presence.{oracleOf}
-use Rattle.grammar.specs.Outcome.{Written, Outcome, answerOf, writtenOf, withLength, parseAnswer, displayAnswer, wordAlone, withTree, withStatus, statedBytes, statusAnswer, answer-fits, written-fits, answer-short, written-short, written-back}
+use Rattle.grammar.specs.Outcome.{Written, Outcome, answerOf, writtenOf, withLength, parseAnswer, displayAnswer, StatusSaid, wordAlone, withTree, withStatus, statedBytes, statusAnswer, answer-fits, written-fits, answer-short, written-short, written-back, accepted}
 use Rattle.semantics.specs.Answers.{evalAnswer, truthAnswer, violationsAnswer, evalAndTruthAnswer, paketeAnswer}
 use Rattle.semantics.specs.Flat as flats
 
@@ -32,21 +32,78 @@ parse-read s w h = go (reading s) refl h
     go (ok e) q k = let same : withLength (bytesOf e) ≡ w = cc in (e, asExpression s e q, sym same)
     go (refused n) q k = absurd (refused≢ok k)
 
--- and so is one that `Status::parse` writes
-pub status-read : (s : List ℕ) (k : StatusKind) (b : List ℕ) → statusAnswer s ≡ ok (withStatus k b) → (e : Expr) × WasRead e × (b ≡ bytesOf e)
+-- and so is one that `Status::parse` writes after a word
+pub status-read : (s : List ℕ) (k : StatusKind) (n : ℕ) (b : List ℕ) → statusAnswer s ≡ ok (record { answer = withTree k n; bytes = b })
+    → (e : Expr) × WasRead e × (n ≡ length (bytesOf e)) × (b ≡ bytesOf e)
 unfolding statusAnswer map-ok
-status-read s k b h = go (statusReading s) refl h
+status-read s k n b h = go (statusReading s) refl h
   where
-    go : (r : Result Stated) → statusReading s ≡ r → map-ok statedBytes r ≡ ok (withStatus k b) → (e : Expr) × WasRead e × (b ≡ bytesOf e)
+    go : (r : Result Stated) → statusReading s ≡ r → map-ok statedBytes r ≡ ok (record { answer = withTree k n; bytes = b })
+        → (e : Expr) × WasRead e × (n ≡ length (bytesOf e)) × (b ≡ bytesOf e)
     go (ok (stated j e)) q p =
-        let same : withStatus j (bytesOf e) ≡ withStatus k b = cc in
-        (e, afterStatus s j e q, sym (ap (λ w. w .bytes) same))
+        let same : withStatus j (bytesOf e) ≡ record { answer = withTree k n; bytes = b } = cc in
+        let said : withTree j (length (bytesOf e)) ≡ withTree k n = ap (λ w. w .answer) same in
+        let size : length (bytesOf e) ≡ n = cc in
+        (e, afterStatus s j e q, sym size, sym (ap (λ w. w .bytes) same))
     go (ok (alone j)) q p =
-        let same : statedBytes (alone j) ≡ withStatus k b = cc in
-        let said : wordAlone j ≡ withTree k (length b) = ap (λ w. w .answer) same in
+        let same : statedBytes (alone j) ≡ record { answer = withTree k n; bytes = b } = cc in
+        let said : wordAlone j ≡ withTree k n = ap (λ w. w .answer) same in
         let z : _≡_ {A = ℕ} 0 1 = cc in
         absurd (omega arith)
     go (refused m) q p = absurd (refused≢ok p)
+
+-- a tree that is held: the first bytes of a buffer after `Expr::parse`, or `Status::parse`, was accepted with so many
+pub data Held : List ℕ → Type 0 where
+  byExpression : (s buffer : List ℕ) (n : ℕ) → answerOf (parseAnswer s) (length buffer) ≡ ok n → Held (take n (writtenOf (parseAnswer s) buffer))
+  byStatus : (s buffer : List ℕ) (k : StatusKind) (n : ℕ) → answerOf (statusAnswer s) (length buffer) ≡ ok (withTree k n)
+      → Held (take n (writtenOf (statusAnswer s) buffer))
+
+-- the expression whose bytes a held tree is
+pub record IsHeld (t : List ℕ) : Type 0 where
+  pub expr : Expr
+  pub wasRead : WasRead expr
+  pub is : t ≡ bytesOf expr
+
+expression-held : (s buffer : List ℕ) (n : ℕ) → answerOf (parseAnswer s) (length buffer) ≡ ok n → IsHeld (take n (writtenOf (parseAnswer s) buffer))
+expression-held s buffer n h =
+    let a = accepted (parseAnswer s) (length buffer) n h in
+    let r = parse-read s (record { answer = n; bytes = a .bytes }) (a .came) in
+    let e = r .0 in
+    let size : n ≡ length (bytesOf e) = ap (λ w. w .answer) (r .2) in
+    let same : a .bytes ≡ bytesOf e = ap (λ w. w .bytes) (r .2) in
+    let room : length (bytesOf e) ≤ length buffer = omega (arith, ap length same, a .room) in
+    let came : parseAnswer s ≡ ok (withLength (bytesOf e)) = a .came ∙ ap ok (r .2) in
+    record {
+      expr = e;
+      wasRead = r .1;
+      is = ap (λ (i : ℕ). take i (writtenOf (parseAnswer s) buffer)) size ∙ ap (λ o. take (length (bytesOf e)) (writtenOf o buffer)) came ∙ written-back (withLength (bytesOf e)) buffer room;
+    }
+
+status-held : (s buffer : List ℕ) (k : StatusKind) (n : ℕ) → answerOf (statusAnswer s) (length buffer) ≡ ok (withTree k n) → IsHeld (take n (writtenOf (statusAnswer s) buffer))
+status-held s buffer k n h =
+    let a = accepted (statusAnswer s) (length buffer) (withTree k n) h in
+    let r = status-read s k n (a .bytes) (a .came) in
+    let e = r .0 in
+    let size : n ≡ length (bytesOf e) = r .2 in
+    let same : a .bytes ≡ bytesOf e = r .3 in
+    let room : length (bytesOf e) ≤ length buffer = omega (arith, ap length same, a .room) in
+    let said : withTree k n ≡ withTree k (length (bytesOf e)) = ap (withTree k) size in
+    let w : Written StatusSaid = withStatus k (bytesOf e) in
+    let came : statusAnswer s ≡ ok w = a .came ∙ ap (λ (x : StatusSaid). ok (record { answer = x; bytes = a .bytes })) said ∙ ap (λ (x : List ℕ). ok (record { answer = withTree k (length (bytesOf e)); bytes = x })) same in
+    record {
+      expr = e;
+      wasRead = r .1;
+      is = ap (λ (i : ℕ). take i (writtenOf (statusAnswer s) buffer)) size ∙ ap (λ o. take (length (bytesOf e)) (writtenOf o buffer)) came ∙ written-back w buffer room;
+    }
+
+-- a held tree is the bytes of an expression that was read
+pub held-is : (t : List ℕ) → Held t → IsHeld t
+held-is t (byExpression s buffer n h) = expression-held s buffer n h
+held-is t (byStatus s buffer k n h) = status-held s buffer k n h
+
+-- the flat tree of tree bytes (a term of document 01), or 15
+unfoldable pub flatTree : List ℕ → Result (List ℕ)
+flatTree t = map-ok (λ e. bytesOf (flat e)) (treeOf t)
 
 -- Reading the print.
 
@@ -109,22 +166,41 @@ printed-alike a b v w =
 
 -- The flat tree answers alike.
 
--- what a tree and another answer alike, whatever the answer bytes, the value, the buffers
+-- what a tree and another answer alike, whatever the answer bytes and the value. Said of whole outcomes: so the answer or refusal, 14 among
+-- them, is the same in buffers of equal length, and so are the bytes in front, whatever the buffers held (`same-outcome`)
 pub record AnswersAlike (a b : List ℕ) : Type 0 where
   -- the presence answer or refusal, 16 among them
   pub eval : (answers : List ℕ) → evalAnswer a answers ≡ evalAnswer b answers
-  -- the number of package rows or refusal, 14 among them
-  pub pakete-count : (n : ℕ) → answerOf (paketeAnswer a) n ≡ answerOf (paketeAnswer b) n
-  -- the rows in a buffer
-  pub pakete-rows : (buffer : List ℕ) → writtenOf (paketeAnswer a) buffer ≡ writtenOf (paketeAnswer b) buffer
+  -- the package rows, their count, or the refusal
+  pub pakete : paketeAnswer a ≡ paketeAnswer b
   -- the format truth or refusal
   pub truth : (value : List ℕ) → truthAnswer a value ≡ truthAnswer b value
-  -- the number of violations or refusal, 14 among them
-  pub violations-count : (value : List ℕ) (n : ℕ) → answerOf (violationsAnswer a value) n ≡ answerOf (violationsAnswer b value) n
-  -- their numbers in a buffer, in order
-  pub violations-numbers : (value buffer : List ℕ) → writtenOf (violationsAnswer a value) buffer ≡ writtenOf (violationsAnswer b value) buffer
+  -- the violations, their count and order, or the refusal
+  pub violations : (value : List ℕ) → violationsAnswer a value ≡ violationsAnswer b value
   -- presence and format truth together
   pub eval-and-truth : (answers value : List ℕ) → evalAndTruthAnswer a answers value ≡ evalAndTruthAnswer b answers value
+
+-- calls of one outcome, in two buffers of equal length: the same answer, and if it is accepted the same bytes before what each buffer held
+pub record SameIn {A : Type 0} (o p : Outcome A) (x y : List ℕ) : Type 0 where
+  pub answer : answerOf o (length x) ≡ answerOf p (length y)
+  pub bytes : (a : A) → answerOf o (length x) ≡ ok a → (b : List ℕ) × (writtenOf o x ≡ b ++ drop (length b) x) × (writtenOf p y ≡ b ++ drop (length b) y)
+
+module _ {A : Type 0} (o p : Outcome A) (h : o ≡ p) (x y : List ℕ) (l : length x ≡ length y) where
+  -- outcomes that are alike
+  pub same-outcome : SameIn o p x y
+  same-outcome =
+      let said : answerOf o (length x) ≡ answerOf p (length y) = ap (λ q. answerOf q (length x)) h ∙ ap (answerOf p) l in
+      record {
+        answer = said;
+        bytes = λ a q.
+            let k = accepted o (length x) a q in
+            let w : Written A = record { answer = a; bytes = k .bytes } in
+            let room : length (k .bytes) ≤ length y = omega (arith, l, k .room) in (
+              k .bytes,
+              ap (λ r. writtenOf r x) (k .came) ∙ written-fits w x (k .room),
+              ap (λ r. writtenOf r y) (sym h ∙ k .came) ∙ written-fits w y room,
+            );
+      }
 
 module _ (e : Expr) (f : Fits e) where
   flat-is : treeOf (bytesOf (flat e)) ≡ ok (flat e)
@@ -158,14 +234,73 @@ module _ (e : Expr) (f : Fits e) where
   pub fitting-flat-agrees : AnswersAlike (bytesOf (flat e)) (bytesOf e)
   fitting-flat-agrees = record {
     eval = eval-flat;
-    pakete-count = λ n. ap (λ o. answerOf o n) pakete-flat;
-    pakete-rows = λ buffer. ap (λ o. writtenOf o buffer) pakete-flat;
+    pakete = pakete-flat;
     truth = truth-flat;
-    violations-count = λ value n. ap (λ o. answerOf o n) (violations-flat value);
-    violations-numbers = λ value buffer. ap (λ o. writtenOf o buffer) (violations-flat value);
+    violations = violations-flat;
     eval-and-truth = both-flat;
   }
 
 -- the flat tree of what was read answers as its tree does
 pub flat-agrees : (e : Expr) → WasRead e → AnswersAlike (bytesOf (flat e)) (bytesOf e)
 flat-agrees e w = fitting-flat-agrees e (read-fits e w)
+
+-- For the bytes that a caller holds.
+
+-- what is promised of a held tree: it has a flat tree and a print; what `display` left of the print in a buffer reads as the flat tree, into
+-- any buffer; both trees answer alike and print alike
+pub record Promised (t : List ℕ) : Type 0 where
+  pub flatBytes : List ℕ
+  pub print : List ℕ
+  pub isFlat : flatTree t ≡ ok flatBytes
+  pub shown : Writes (displayAnswer t) print
+  pub again : (buffer : List ℕ) (n : ℕ) → answerOf (displayAnswer t) (length buffer) ≡ ok n → Writes (parseAnswer (take n (writtenOf (displayAnswer t) buffer))) flatBytes
+  pub alike : AnswersAlike flatBytes t
+  pub shownAlike : displayAnswer flatBytes ≡ displayAnswer t
+
+module _ (e : Expr) (w : WasRead e) where
+  flat-of : flatTree (bytesOf e) ≡ ok (bytesOf (flat e))
+  unfolding flatTree map-ok
+  flat-of = rw (tree-of-bytes e (read-fits e w))
+
+  flat-shown : displayAnswer (bytesOf (flat e)) ≡ displayAnswer (bytesOf e)
+  unfolding displayAnswer map-ok
+  flat-shown = rw (flat-is e (read-fits e w), tree-is e (read-fits e w), print-flat inBytes e (read-fits e w .wide))
+
+  reads-again : (buffer : List ℕ) (n : ℕ) → answerOf (displayAnswer (bytesOf e)) (length buffer) ≡ ok n
+      → Writes (parseAnswer (take n (writtenOf (displayAnswer (bytesOf e)) buffer))) (bytesOf (flat e))
+  reads-again buffer n h =
+      let a = accepted (displayAnswer (bytesOf e)) (length buffer) n h in
+      let one : ok (withLength (printed e)) ≡ ok (record { answer = n; bytes = a .bytes }) = sym (shown-is e w) ∙ a .came in
+      let same : withLength (printed e) ≡ record { answer = n; bytes = a .bytes } = cc in
+      let size : length (printed e) ≡ n = ap (λ x. x .answer) same in
+      let room : length (printed e) ≤ length buffer = omega (arith, ap (λ x. length (x .bytes)) same, a .room) in
+      subst (λ (i : ℕ). Writes (parseAnswer (take i (writtenOf (displayAnswer (bytesOf e)) buffer))) (bytesOf (flat e))) size (read-printed e w .again buffer room)
+
+  promised-of : Promised (bytesOf e)
+  promised-of = record {
+    flatBytes = bytesOf (flat e);
+    print = printed e;
+    isFlat = flat-of;
+    shown = read-printed e w .shown;
+    again = reads-again;
+    alike = flat-agrees e w;
+    shownAlike = flat-shown;
+  }
+
+-- every held tree keeps the promise
+pub held-promised : (t : List ℕ) → Held t → Promised t
+held-promised t h = let k = held-is t h in subst Promised (sym (k .is)) (promised-of (k .expr) (k .wasRead))
+
+-- two held trees print alike exactly when their flat trees are alike
+pub held-alike : (a b : List ℕ) → Held a → Held b → (displayAnswer a ≡ displayAnswer b) ↔ (flatTree a ≡ flatTree b)
+held-alike a b h g =
+    let k = held-is a h in
+    let l = held-is b g in
+    let same = printed-alike (k .expr) (l .expr) (k .wasRead) (l .wasRead) in
+    let fa : flatTree a ≡ ok (bytesOf (flat (k .expr))) = ap flatTree (k .is) ∙ flat-of (k .expr) (k .wasRead) in
+    let fb : flatTree b ≡ ok (bytesOf (flat (l .expr))) = ap flatTree (l .is) ∙ flat-of (l .expr) (l .wasRead) in (
+      λ q. fa ∙ ap ok (same .0 (sym (ap displayAnswer (k .is)) ∙ q ∙ ap displayAnswer (l .is))) ∙ sym fb,
+      λ q. let one : ok (bytesOf (flat (k .expr))) ≡ ok (bytesOf (flat (l .expr))) = sym fa ∙ q ∙ fb in
+          let two : bytesOf (flat (k .expr)) ≡ bytesOf (flat (l .expr)) = cc in
+          ap displayAnswer (k .is) ∙ same .1 two ∙ sym (ap displayAnswer (l .is)),
+    )

@@ -1,4 +1,4 @@
--- What document 01 states in passing, of every tree, read or not. Assumes nothing.
+-- Sizes, what Unknown rests on, and what cannot arise, of every tree, read or not. Assumes nothing.
 use mathlib.Core.Path.{_≡_, refl, sym, ap, _∙_}
 use mathlib.Core.List.{List}
 use mathlib.Core.Bool.{Bool, true, false}
@@ -42,7 +42,7 @@ pub record Small (b : List ℕ) (e : Expr) : Type 0 where
   pub print-tokens : lex (decode (printed e)) ≡ ok (print inTokens e)
   pub print-deep : shallow 254 0 (print inTokens e) ≡ true
 
--- at most 511 nodes and 6,150 bytes; a print of at most 4,343 bytes, at most 254 parentheses deep
+-- what is a tree keeps these sizes
 pub tree-small : (b : List ℕ) → IsBytes b → (e : Expr) → treeOf b ≡ ok e → Small b e
 tree-small b i e h =
     let t = grammar.tree-is-bytes b i e h in
@@ -56,11 +56,11 @@ tree-small b i e h =
       print-deep = s .1;
     }
 
--- these bounds in document 01's numbers
+-- the limits as numbers
 pub small-numbers : (nodeLimit ≡ 511) × (treeLimit ≡ 6150) × (printLimit ≡ 4343)
 small-numbers = (refl, refl, refl)
 
--- another answer from 0 to 4 at a dropped citation changes nothing
+-- the answer to a dropped citation does not matter, as long as it is one of the five
 pub dropped-free : (tree answers : List ℕ) (e : Expr) (k x : ℕ) → treeOf tree ≡ ok e → answersFit e answers ≡ true
     → evaluates k 0 e ≡ false → x ≤ failed → evalAnswer tree (set answers k x) ≡ evalAnswer tree answers
 dropped-free = evaluated.dropped-free
@@ -79,7 +79,7 @@ pub record UnknownAnswer (tree answers : List ℕ) : Type 0 where
   pub isEvaluated : evaluates number 0 expr ≡ true
   pub answer : getD answers number failed ≡ truthNumber Unknown
 
--- presence is Unknown only if an evaluated citation's answer is Unknown
+-- an Unknown presence comes from an evaluated citation that was answered Unknown
 pub unknown-cited : (tree answers : List ℕ) → evalAnswer tree answers ≡ ok Unknown → UnknownAnswer tree answers
 unfolding evalAnswer
 unknown-cited tree answers h =

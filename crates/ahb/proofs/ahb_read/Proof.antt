@@ -1,5 +1,5 @@
 use mathlib.Core.Path.{sym, subst}
-use Rattle.ahb.specs.Known.{Among}
+use Rattle.refusal.specs.Known.{Among}
 use Rattle.ahb.specs.Sizes.{Short, ShortStatus, parse-among, status-among}
 use Rattle.ahb.proofs.Laws.{read-expression, read-status}
 use borrow.Author.Needs.{needs}

@@ -1,5 +1,5 @@
 use mathlib.Core.Path.{sym, subst}
-use Rattle.ahb.specs.Known.{Among}
+use Rattle.refusal.specs.Known.{Among}
 use Rattle.ahb.specs.Sizes.{Few, violations-among}
 use Rattle.ahb.proofs.Laws.{verdict-truth, verdict-violations}
 use borrow.Author.Needs.{needs}

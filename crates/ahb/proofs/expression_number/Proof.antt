@@ -3,7 +3,7 @@ use native.Mathlib.Omega.{arith}
 use Rattle.reader.specs.declared.ParseAnswer.{ParseAnswer}
 use Rattle.reader.specs.Said.{parseSaid}
 use Rattle.ahb.specs.Numbers.{acceptedFrom, answerNumber, expressionNumber}
-use Rattle.ahb.specs.Known.{Among}
+use Rattle.refusal.specs.Known.{Among}
 use Rattle.ahb.specs.Sizes.{Short}
 use borrow.Author.Needs.{needs}
 use Rattle.ahb.proofs.expression_number.Statement.{statement}

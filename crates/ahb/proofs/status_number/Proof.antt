@@ -4,7 +4,7 @@ use Prim.Native.Nat.{ℕ, _+_}
 use Rattle.reader.specs.declared.StatusAnswer.{StatusAnswer}
 use Rattle.reader.specs.Said.{statusSaid}
 use Rattle.ahb.specs.Numbers.{acceptedFrom, answerNumber, coded, statusNumber}
-use Rattle.ahb.specs.Known.{Among}
+use Rattle.refusal.specs.Known.{Among}
 use Rattle.ahb.specs.Sizes.{ShortStatus}
 use borrow.Author.Needs.{needs}
 use Rattle.ahb.proofs.status_number.Statement.{statement}

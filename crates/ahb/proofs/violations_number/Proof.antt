@@ -3,7 +3,7 @@ use native.Mathlib.Omega.{arith}
 use Rattle.verdicts.specs.declared.ViolationsAnswer.{ViolationsAnswer}
 use Rattle.verdicts.specs.Said.{violationsSaid}
 use Rattle.ahb.specs.Numbers.{verdictNumber}
-use Rattle.ahb.specs.Known.{Among}
+use Rattle.refusal.specs.Known.{Among}
 use Rattle.ahb.specs.Sizes.{Few}
 use borrow.Author.Needs.{needs}
 use Rattle.ahb.proofs.violations_number.Statement.{statement}

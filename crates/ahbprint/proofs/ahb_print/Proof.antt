@@ -1,6 +1,6 @@
 use mathlib.Core.Path.{sym, ap, _∙_, subst}
 use Rattle.ahb.specs.Numbers.{verdictNumber}
-use Rattle.ahb.specs.Known.{Among}
+use Rattle.refusal.specs.Known.{Among}
 use Rattle.ahbprint.specs.Sizes.{Printable, print-among}
 use borrow.Author.Needs.{needs}
 use Rattle.ahbprint.proofs.ahb_print.Statement.{statement}

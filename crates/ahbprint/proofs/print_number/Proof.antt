@@ -3,7 +3,7 @@ use native.Mathlib.Omega.{arith}
 use Rattle.printer.specs.declared.Displayed.{Displayed}
 use Rattle.printer.specs.Said.{displaySaid}
 use Rattle.ahb.specs.Numbers.{verdictNumber}
-use Rattle.ahb.specs.Known.{Among}
+use Rattle.refusal.specs.Known.{Among}
 use Rattle.ahbprint.specs.Sizes.{Printable}
 use borrow.Author.Needs.{needs}
 use Rattle.ahbprint.proofs.print_number.Statement.{statement}
