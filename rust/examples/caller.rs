@@ -138,10 +138,7 @@ fn largest() {
         text.push_str(if i > 0 && i + 1 < CITATION_LIMIT { ")" } else { "" });
     }
     assert_eq!(expression("largest tree", text.as_bytes(), TREE_SIZE).0, Ok((None, Some(TREE_SIZE))));
-    assert_eq!(
-        expression("largest tree, one short", text.as_bytes(), TREE_SIZE - 1).0,
-        Err(Refusal::NoRoom)
-    );
+    assert_eq!(expression("largest tree, one short", text.as_bytes(), TREE_SIZE - 1).0, Err(Refusal::NoRoom));
 
     let (_, tree) = expression("256 times [902]", &b"[902]".repeat(CITATION_LIMIT), TREE_SIZE);
     assert_eq!(listed("all violated", &tree, b"", VIOLATIONS_SIZE), Ok(CITATION_LIMIT));
