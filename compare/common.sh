@@ -29,41 +29,33 @@ find_ours() {
     fi
 }
 
-# The programs and the library; rt proves and links them where they are missing.
+# The programs and the library. REPLAY and AHB_LIB are taken as they are.
 find_linked() {
-    find_replay
-    find_tables
-    find_library ahb
-}
-
-# The program that writes the tables.
-find_tables() {
-    if [ ! -x "$root/target/bin/tables" ]; then
-        (cd "$root" && rt check tables) >&2 || exit 2
-    fi
-}
-
-# A static library.
-find_library() {
-    if [ ! -f "$root/target/staticlib/lib$1.a" ]; then
-        echo "target/staticlib/lib$1.a is not there: rt staticlib $1" >&2
-        (cd "$root" && rt staticlib "$1") >&2 || exit 2
-    fi
-}
-
-# REPLAY, else the program that rt links.
-find_replay() {
-    local linked=$root/target/bin/replay
-    export REPLAY=${REPLAY:-$linked}
-    if [ ! -x "$REPLAY" ] && [ "$REPLAY" = "$linked" ]; then
-        echo "target/bin/replay is not there: rt check replay" >&2
-        (cd "$root" && rt check replay) >&2 || true
-    fi
+    local old=()
+    if outdated bin/tables; then old+=(tables); fi
+    if [ -z "${REPLAY:-}" ] && outdated bin/replay; then old+=(replay); fi
+    if [ ${#old[@]} -gt 0 ]; then in_rt check "${old[@]}"; fi
+    export REPLAY=${REPLAY:-$root/target/bin/replay}
     if [ ! -x "$REPLAY" ]; then
         echo "compare: no program at $REPLAY: run rt check replay, or set REPLAY" >&2
         exit 2
     fi
-    if [ "$REPLAY" = "$linked" ] && [ -n "$(find "$root/crates" -name '*.rt' -newer "$REPLAY" -print -quit)" ]; then
-        echo "target/bin/replay is older than the crates: rt check replay links it anew" >&2
-    fi
+    if [ -z "${AHB_LIB:-}" ]; then find_library ahb; fi
+}
+
+# A static library.
+find_library() {
+    if outdated "staticlib/lib$1.a"; then in_rt staticlib "$1"; fi
+}
+
+# Whether what rt makes of the crates is missing, or older than their code.
+outdated() {
+    local made=$root/target/$1
+    [ ! -e "$made" ] || [ -n "$(find "$root/crates.txt" "$root"/crates/*/src -newer "$made" -print -quit)" ]
+}
+
+# Has rt make something anew; where it does not, there is nothing to compare.
+in_rt() {
+    echo "compare: rt $*" >&2
+    (cd "$root" && rt "$@") >&2 || exit 2
 }
