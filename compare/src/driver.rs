@@ -10,10 +10,11 @@ use std::sync::{Arc, Mutex};
 use std::thread;
 use std::time::{Duration, Instant};
 
+use crate::asked::{ASKED, Asked, Reason};
 use crate::calls;
 use crate::cases::{self, Cases};
 use crate::listed::Listed;
-use crate::oracle::{self, Answer, Origin};
+use crate::oracle::{Answer, Origin};
 use crate::request::{self, BAD_REQUEST, Function, write_hex, write_request};
 use crate::tried::{Folder, MOST_WRITTEN, Written};
 
@@ -67,6 +68,27 @@ pub struct Count {
     pub listed: u64,
 }
 
+/// Requests that a rule takes out of the comparison with the original.
+#[derive(Debug, Default, Clone, Copy, PartialEq)]
+pub struct LeftOut {
+    /// Held to the model.
+    pub modelled: u64,
+    /// Held to nothing.
+    pub unanswered: u64,
+}
+
+impl LeftOut {
+    fn add(&mut self, more: &LeftOut) {
+        self.modelled += more.modelled;
+        self.unanswered += more.unanswered;
+    }
+
+    fn line(&self, what: &str) -> String {
+        let count = self.modelled + self.unanswered;
+        format!("left out of the comparison{what}: {count}, the model answered {}", self.modelled)
+    }
+}
+
 /// A request whose answers differ.
 pub struct Difference {
     pub request: Vec<u8>,
@@ -81,6 +103,8 @@ pub struct Outcome {
     pub smallest: BTreeMap<Function, Difference>,
     /// The function that was asked last.
     pub last: Option<Function>,
+    /// What was taken out, by reason.
+    pub left_out: BTreeMap<Reason, LeftOut>,
     /// Trees of which demand 3 was run.
     pub trees: u64,
     /// What went wrong with the process itself.
@@ -117,7 +141,15 @@ impl Outcome {
         count.cases += 1;
         count.timed += u64::from(origin == Origin::Time);
         self.last = Some(function);
+        if let Origin::Model(reason) = origin {
+            self.left_out.entry(reason).or_default().modelled += 1;
+        }
         count
+    }
+
+    /// Counts a request that nobody answers.
+    fn leave_out(&mut self, reason: Reason) {
+        self.left_out.entry(reason).or_default().unanswered += 1;
     }
 
     fn count_all(&mut self, cases: &[(Function, Origin)]) {
@@ -139,6 +171,14 @@ impl Outcome {
         }
     }
 
+    /// What was left out, all and by reason.
+    pub fn left_out_lines(&self) -> Vec<String> {
+        let mut all = LeftOut::default();
+        self.left_out.values().for_each(|one| all.add(one));
+        let by_reason = self.left_out.iter().map(|(reason, one)| one.line(&format!(", {reason}")));
+        [all.line("")].into_iter().chain(by_reason).collect()
+    }
+
     /// Takes over what another part of the run has counted.
     fn add(&mut self, other: Outcome) {
         for (function, more) in other.counts {
@@ -154,6 +194,9 @@ impl Outcome {
             if smallest.is_none_or(|d| difference.request.len() < d.request.len()) {
                 self.smallest.insert(function, difference);
             }
+        }
+        for (reason, more) in other.left_out {
+            self.left_out.entry(reason).or_default().add(&more);
         }
         self.trees += other.trees;
         self.failure = self.failure.take().or(other.failure);
@@ -222,9 +265,9 @@ pub fn check_ends(replay: &Replay) -> Result<(), String> {
 }
 
 /// Names the request over which the oracle panics.
-struct Asked<'a>(Function, &'a [&'a [u8]]);
+struct Request<'a>(Function, &'a [&'a [u8]]);
 
-impl Drop for Asked<'_> {
+impl Drop for Request<'_> {
     fn drop(&mut self) {
         if thread::panicking() {
             let mut line = Vec::new();
@@ -270,8 +313,9 @@ impl Producer {
         for line in text.split_inclusive(|b| *b == b'\n') {
             self.line = line.strip_suffix(b"\n").unwrap_or(line).to_vec();
             let function = request::parse(&self.line).map_or(Function::Protocol, |(function, _)| function);
-            let origin = self.answer(function);
-            self.pipe(function, origin);
+            if let Some(origin) = self.answer(function) {
+                self.pipe(function, origin);
+            }
         }
     }
 
@@ -279,7 +323,7 @@ impl Producer {
         if !self.open {
             return;
         }
-        let _asked = Asked(function, fields);
+        let _request = Request(function, fields);
         if calls::LINKED && function.exported() {
             self.open = self.caller.call(function, fields);
         }
@@ -289,7 +333,9 @@ impl Producer {
         self.line.clear();
         write_request(function, fields, &mut self.line);
         let due = self.batch.due.len();
-        let origin = self.answer(function);
+        let Some(origin) = self.answer(function) else {
+            return;
+        };
         let long = self.line.len() > SHORT.0 || self.batch.due.len() - due > SHORT.1;
         if function.lends() || self.has_turn(function, long) {
             self.pipe(function, origin);
@@ -306,13 +352,14 @@ impl Producer {
         of == 1 || *asked % of == 0
     }
 
-    /// Adds the line's answer to what is due.
-    fn answer(&mut self, function: Function) -> Origin {
-        let origin = oracle::answer(&self.line, &mut self.batch.due);
+    /// Adds the line's answer to what is due, if there is one.
+    fn answer(&mut self, function: Function) -> Option<Origin> {
+        let answered = self.caller.asked.answer(&self.line, &mut self.batch.due);
+        let origin = answered.map_err(|reason| self.caller.outcome.leave_out(reason)).ok()?;
         self.batch.due.push(b'\n');
         let request = function != Function::Protocol;
         assert!(!request || origin != Origin::Protocol, "a generator wrote no request");
-        origin
+        Some(origin)
     }
 
     /// Sends the line, whose answer is the last that is due.
@@ -335,6 +382,7 @@ impl Producer {
 
 /// Calls the library and compares at once.
 struct Caller {
+    asked: Asked,
     outcome: Outcome,
     calls: u64,
     stop: bool,
@@ -343,15 +391,21 @@ struct Caller {
 }
 
 impl Caller {
-    fn new(listed: Arc<Listed>, stop: bool) -> Self {
-        Self { outcome: Outcome::default(), calls: 0, stop, listed, last_report: Instant::now() }
+    fn new(asked: Asked, listed: Arc<Listed>, stop: bool) -> Self {
+        Self { asked, outcome: Outcome::default(), calls: 0, stop, listed, last_report: Instant::now() }
     }
 
     /// Asks both sides; whether to go on.
     fn call(&mut self, function: Function, fields: &[&[u8]]) -> bool {
-        let (due, origin) = oracle::ask(function, fields);
-        let said = calls::ask(function, fields);
         self.calls += 1;
+        let (due, origin) = match self.asked.ask(function, fields) {
+            Ok(due) => due,
+            Err(reason) => {
+                self.outcome.leave_out(reason);
+                return true;
+            }
+        };
+        let said = calls::ask(function, fields);
         self.outcome.count(function, origin).called += 1;
         let before = if function.lends() { fields[fields.len() - 1] } else { &[] };
         if !calls::agrees(&said, &due, before) {
@@ -407,7 +461,7 @@ pub fn run(plan: &Plan, known: &[Function]) -> Outcome {
         Replay::Tried(root) => fs::read(root.join("crates/replay/stdin")).unwrap_or_default(),
     };
     let producer = thread::spawn(move || {
-        let caller = Caller::new(listed, stop);
+        let caller = Caller::new(ASKED, listed, stop);
         let mut producer = Producer::new(to_comparer, caller);
         producer.take_lines(&first);
         let mut take = |function, fields: &[&[u8]]| {
@@ -470,11 +524,11 @@ fn many(plan: &Plan) -> Outcome {
 
 fn called_rounds(seed: u64, rounds: u64, listed: Arc<Listed>, stop: bool) -> Outcome {
     let known: Vec<Function> = Function::ALL.into_iter().filter(|f| f.exported()).collect();
-    let mut caller = Caller::new(listed, stop);
+    let mut caller = Caller::new(ASKED, listed, stop);
     let mut open = true;
     let mut take = |function, fields: &[&[u8]]| {
         if open {
-            let _asked = Asked(function, fields);
+            let _request = Request(function, fields);
             open = caller.call(function, fields);
             caller.report(&format!("seed {seed}"));
         }
@@ -653,6 +707,7 @@ pub fn shown(line: &[u8]) -> String {
 #[cfg(test)]
 mod tests {
     use super::*;
+    use crate::asked::made_up;
 
     #[test]
     fn requests_and_answers_are_split_alike() {
@@ -662,5 +717,30 @@ mod tests {
         assert_eq!((first.requests, first.due), (&b"kind 31\nkind 32\n"[..], &b"0\n0\n"[..]));
         assert_eq!((rest.requests, rest.due), (&b"kind 33"[..], &b"0\n"[..]));
         assert_eq!((first.cases.len(), rest.cases.len()), (2, 1));
+    }
+
+    /// Of four kinds one is of the original, two of the model, and one of nobody.
+    #[test]
+    fn what_is_taken_out_is_counted_and_held_to_the_model() {
+        let (to_comparer, batches) = sync_channel(1);
+        let listed = Arc::new(Listed::from_file(Path::new("")));
+        let mut producer = Producer::new(to_comparer, Caller::new(made_up::ASKED, listed, false));
+        for text in ["801", "901", "9", "9012"] {
+            producer.take(Function::Kind, &[text.as_bytes()]);
+        }
+        producer.send();
+        let batch = batches.recv().expect("a batch");
+        assert_eq!(batch.requests, b"kind 383031\nkind 393031\nkind 39\n");
+        assert_eq!(batch.due, b"1\n7\n7\n");
+
+        let mut outcome = Outcome::default();
+        outcome.count_all(&batch.cases);
+        outcome.add(producer.caller.outcome);
+        assert_eq!(outcome.total().cases, 3);
+        let counted = LeftOut { modelled: 2, unanswered: 1 };
+        assert_eq!(outcome.left_out, BTreeMap::from([(made_up::REASON, counted)]));
+        let lines = ["", ", made up"]
+            .map(|what| format!("left out of the comparison{what}: 3, the model answered 2"));
+        assert_eq!(outcome.left_out_lines(), lines);
     }
 }

@@ -11,6 +11,7 @@ pub mod standin {
     pub mod time;
 }
 
+pub mod asked;
 #[cfg(feature = "bench")]
 pub mod bench;
 pub mod calls;
@@ -18,6 +19,7 @@ pub mod cases;
 pub mod driver;
 pub mod list;
 pub mod listed;
+pub mod model;
 pub mod oracle;
 pub mod paper;
 pub mod random;

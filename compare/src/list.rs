@@ -5,8 +5,9 @@ use std::fmt::Write;
 use std::fs;
 use std::path::Path;
 
+use crate::asked::ASKED;
 use crate::cases::{self, Cases};
-use crate::oracle::{self, Origin};
+use crate::oracle::Origin;
 use crate::original::formatbedingung::REGISTERED;
 use crate::paper;
 use crate::random::hash;
@@ -64,23 +65,25 @@ fn line(function: Function, fields: &[&[u8]]) -> Vec<u8> {
     line
 }
 
-fn entry(section: &'static str, function: Function, request: &[u8]) -> Entry {
+/// A request with its answer, where there is one.
+fn entry(section: &'static str, function: Function, request: &[u8]) -> Option<Entry> {
     let mut answer = Vec::new();
-    let origin = oracle::answer(request, &mut answer);
-    Entry { section, origin, function, request: request.to_vec(), answer }
+    let origin = ASKED.answer(request, &mut answer).ok()?;
+    Some(Entry { section, origin, function, request: request.to_vec(), answer })
 }
 
-/// Document 01's examples; the oracle must answer as it does.
+/// Document 01's examples; whoever is asked must answer as it does.
 fn paper_entries(known: &[Function]) -> Result<Vec<Entry>, String> {
     let mut entries = Vec::new();
     for (line, due) in paper::examples(known) {
         let function = request::parse(&line).map_or(Function::Protocol, |(f, _)| f);
-        let entry = entry(EXAMPLES, function, &line);
-        if entry.answer != due.as_bytes() {
-            let line = String::from_utf8_lossy(&line).into_owned();
-            return Err(format!("document 01 answers {line} with {due}, the oracle does not"));
+        match entry(EXAMPLES, function, &line) {
+            Some(entry) if entry.answer == due.as_bytes() => entries.push(entry),
+            _ => {
+                let line = String::from_utf8_lossy(&line).into_owned();
+                return Err(format!("document 01 answers {line} with {due}, the oracle does not"));
+            }
         }
-        entries.push(entry);
     }
     Ok(entries)
 }
@@ -88,7 +91,7 @@ fn paper_entries(known: &[Function]) -> Result<Vec<Entry>, String> {
 fn limit_entries(known: &[Function]) -> Vec<Entry> {
     let mut entries = Vec::new();
     let mut take =
-        |function, fields: &[&[u8]]| entries.push(entry(LIMITS, function, &line(function, fields)));
+        |function, fields: &[&[u8]]| entries.extend(entry(LIMITS, function, &line(function, fields)));
     let mut cases = Cases::new(false, 1, known, &mut take);
     cases::limits::limits(&mut cases);
     cases::protocol::requestless(&mut cases);
@@ -128,7 +131,9 @@ fn sampled_entries(known: &[Function]) -> Vec<Entry> {
         if function == Function::Protocol || line.len() > LONGEST_SAMPLE {
             return;
         }
-        let entry = entry(SAMPLE, function, &line);
+        let Some(entry) = entry(SAMPLE, function, &line) else {
+            return;
+        };
         let class = class(function, &line, &entry.answer);
         let most = share(&class);
         let kept = classes.entry(class).or_default();
@@ -141,12 +146,13 @@ fn sampled_entries(known: &[Function]) -> Vec<Entry> {
     classes.into_values().flat_map(BTreeMap::into_values).collect()
 }
 
-fn origin_words(origin: Origin) -> &'static str {
+fn origin_words(origin: Origin) -> String {
     match origin {
-        Origin::Rust => "the Rust original",
-        Origin::Time => "the Rust original over the stand-in for `time`",
-        Origin::Paper => "document 01",
-        Origin::Protocol => "the line protocol",
+        Origin::Rust => "the Rust original".to_owned(),
+        Origin::Time => "the Rust original over the stand-in for `time`".to_owned(),
+        Origin::Paper => "document 01".to_owned(),
+        Origin::Model(reason) => format!("the model: {reason}"),
+        Origin::Protocol => "the line protocol".to_owned(),
     }
 }
 

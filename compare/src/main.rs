@@ -105,6 +105,9 @@ fn report(outcome: &Outcome, known: &[Function]) {
         );
     }
     println!("demand 3 on both sides: {} trees", outcome.trees);
+    for line in outcome.left_out_lines() {
+        println!("{line}");
+    }
     if !calls::LINKED {
         println!("a part of the cases: where rt check replay has linked the program, all are asked");
     }

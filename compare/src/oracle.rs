@@ -1,10 +1,11 @@
-//! The answers that `replay` is held to: the original's, within document 01's limits.
+//! The original's answers, within document 01's limits.
 
 use std::collections::HashMap;
 
+use crate::asked::Reason;
 use crate::original::conditions::{ConditionKind, EvalError, Expr, ExprError, Paket, Status, Truth, inside};
 use crate::original::formatbedingung::{self, FormatVerdict};
-use crate::request::{self, BAD_REQUEST, Function, write_hex};
+use crate::request::{Function, write_hex};
 use crate::standin::time;
 use crate::tree::{self, MOST_CITATIONS, MOST_TEXT_BYTES};
 
@@ -47,25 +48,14 @@ pub enum Origin {
     Time,
     /// Document 01's, where the original has none.
     Paper,
+    /// The plain model's, where a rule takes the request out for this reason.
+    Model(Reason),
     /// The line protocol's.
     Protocol,
 }
 
 /// An answer: words, and for a lent buffer what is written into it.
 pub type Answer = Result<(String, Vec<u8>), u8>;
-
-/// Answers a request line.
-pub fn answer(line: &[u8], out: &mut Vec<u8>) -> Origin {
-    let Some((function, fields)) = request::parse(line) else {
-        out.extend_from_slice(BAD_REQUEST.as_bytes());
-        return Origin::Protocol;
-    };
-    let fields: Vec<&[u8]> = fields.iter().map(Vec::as_slice).collect();
-    let (answer, origin) = ask(function, &fields);
-    let lent = if function.lends() { fields.last() } else { None };
-    write_answer(answer, lent.map(|lent| lent.to_vec()), out);
-    origin
-}
 
 /// The answer to a function, and whose it is; a lent buffer is the last field.
 pub fn ask(function: Function, fields: &[&[u8]]) -> (Answer, Origin) {
@@ -95,7 +85,8 @@ fn within(answer: Answer, lent: Option<&[u8]>) -> Answer {
     }
 }
 
-fn write_answer(answer: Answer, lent: Option<Vec<u8>>, out: &mut Vec<u8>) {
+/// Writes an answer, and after it what a lent buffer holds.
+pub fn write_answer(answer: Answer, lent: Option<Vec<u8>>, out: &mut Vec<u8>) {
     let (words, result) = answer.unwrap_or_else(|n| (format!("refused {n}"), Vec::new()));
     out.extend_from_slice(words.as_bytes());
     if let Some(mut lent) = lent {
@@ -344,6 +335,7 @@ fn violations(expr: &Expr, value: &str) -> (String, Vec<u8>) {
 #[cfg(test)]
 mod tests {
     use super::*;
+    use crate::asked::ASKED;
 
     #[test]
     fn conversion_from_bool() {
@@ -354,7 +346,7 @@ mod tests {
     fn document_examples() {
         for (line, due) in crate::paper::examples(&Function::ALL) {
             let mut said = Vec::new();
-            answer(&line, &mut said);
+            let _ = ASKED.answer(&line, &mut said);
             let asked = String::from_utf8_lossy(&line).into_owned();
             assert_eq!(String::from_utf8_lossy(&said), due, "{asked}");
         }
