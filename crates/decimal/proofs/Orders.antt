@@ -1,5 +1,5 @@
 -- The order of sizes by their digits, and that of signed numbers by their sizes. Assumes nothing.
-use Prim.Native.Nat.{ℕ, suc, _+_, _-_, _*_, _^_, _≤_, _<_}
+use Prim.Native.Nat.{ℕ, _+_, _-_, _*_, _^_, _≤_, _<_}
 use mathlib.Core.Path.{_≡_, refl, sym, ap, ap₂, _∙_}
 use mathlib.Core.Logic.{_⊎_, inl, inr, ⊎-elim}
 use mathlib.Core.Bool.{Bool, true, false, cond, _&&_}
@@ -12,10 +12,10 @@ use lib.Dec.{ltb, eqb}
 use borrow.Author.Tests.{lt-ltb, le-ltb, eqb-true, eqb-false}
 use Rattle.laws.specs.Tests.{and-both}
 use Rattle.text.specs.Bytes.{all}
-use Rattle.text.specs.Digits.{isDigit, allDigits, natFrom, natOf, plusWidth}
-use Rattle.text.proofs.Numbers.{digit-range, nat-append, nat-ge, nat-shift, nat-lt, plus-le}
+use Rattle.text.specs.Digits.{isDigit, allDigits, natFrom, natOf}
+use Rattle.text.proofs.Numbers.{digit-range, nat-append, nat-ge, nat-shift, nat-lt}
 use Rattle.decimal.specs.declared.Order.the-variants.{Less, Equal, Greater}
-use Rattle.decimal.specs.Decimal.{isNegative, signWidth, isZero, orderℕ, orderOf, signed, isNumber, integerOf, fractionOf}
+use Rattle.decimal.specs.Decimal.{isZero, orderℕ, orderOf, signed, isNumber, integerOf, fractionOf}
 use Rattle.decimal.specs.Signs.{bySign, flip, apart}
 
 -- digits are 0 just where each of them is
@@ -136,11 +136,3 @@ number-digits s e =
     let a = and-both (allDigits (integerOf s)) (allDigits (fractionOf s) && ltb 0 (length (integerOf s) + length (fractionOf s))) e in
     let b = and-both (allDigits (fractionOf s)) (ltb 0 (length (integerOf s) + length (fractionOf s))) (a .1) in
     (a .0, b .0)
-
-pub sign-le : (s : List ℕ) → signWidth s ≤ length s
-sign-le [] = omega arith
-sign-le (b ∷ s) = go (isNegative (b ∷ s))
-  where
-    go : (t : Bool) → cond t 1 (plusWidth (b ∷ s)) ≤ suc (length s)
-    go true = omega arith
-    go false = plus-le (b ∷ s)

@@ -73,16 +73,13 @@ fn integer(s: &[u8]) -> &[u8]
     text::head(u, to)
 }
 
-// The digits after the point.
+// The digits after the point, if there is one.
 fn fraction(s: &[u8]) -> &[u8]
     ensures { λ r. ⌜ now r ≡ fractionOf (now (s .entry)) ⌝ }
 {
     let u = unsigned(s);
     let to = text::find(u, b".");
-    if to < u.len() {
-        return text::tail(u, to + 1);
-    }
-    text::tail(u, to)
+    text::tail(u, to + 1)
 }
 
 pub fn is_number(s: &[u8]) -> bool

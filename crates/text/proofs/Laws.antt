@@ -1,16 +1,41 @@
 -- Laws of byte strings, as a loop over one byte a turn uses them. Assumes nothing.
-use Prim.Native.Nat.{ℕ, suc, _+_, _-_, _≤_, _<_}
+use Prim.Native.Nat.{ℕ, suc, _+_, _≤_, _<_, min}
 use mathlib.Core.Path.{_≡_, refl, sym, ap₂, _∙_}
 use mathlib.Core.Bool.{Bool, true, false, cond, and-false}
 use mathlib.Core.List.{List, [], _∷_}
 use native.Mathlib.Omega.{arith}
 use native.Mathlib.Numerals.{add-one}
-use lib.ListN.{length, getD, drop, drop-of-length-le}
-use lib.Seq.{drop-cons}
+use native.Mathlib.Decide.{decLt}
+use lib.ListN.{length, getD, take, drop, drop-of-length-le}
+use lib.Seq.{drop-cons, drop-length, take-length, take-all}
 use lib.Dec.{eqb}
 use borrow.Author.Tests.{eq-eqb, ne-eqb, eqb-true}
 use Rattle.laws.specs.Tests.{and-both}
 use Rattle.text.specs.Bytes.{all, begins, same, place}
+
+-- a place past the end is the end
+module _ (n : ℕ) (s : List ℕ) where
+  pub drop-capped : drop (min n (length s)) s ≡ drop n s
+  drop-capped = go (decLt (length s) n)
+    where
+      go : Dec (length s < n) → drop (min n (length s)) s ≡ drop n s
+      go (yes h) =
+          let e : min n (length s) ≡ length s = omega arith in
+          rw e (drop-length s ∙ sym (drop-of-length-le s {i = n} (omega arith)))
+      go (no h) =
+          let e : min n (length s) ≡ n = omega arith in
+          rw e
+
+  pub take-capped : take (min n (length s)) s ≡ take n s
+  take-capped = go (decLt (length s) n)
+    where
+      go : Dec (length s < n) → take (min n (length s)) s ≡ take n s
+      go (yes h) =
+          let e : min n (length s) ≡ length s = omega arith in
+          rw e (take-length s ∙ sym (take-all n s (omega arith)))
+      go (no h) =
+          let e : min n (length s) ≡ n = omega arith in
+          rw e
 
 module _ (f : ℕ → Bool) (s : List ℕ) (i : ℕ) where
   pub all-pass : i < length s → f (getD s i 0) ≡ true → all f (drop (i + 1) s) ≡ all f (drop i s)
@@ -57,20 +82,6 @@ place-le t (b ∷ s) = go (begins t (b ∷ s)) (place-le t s)
     go : (x : Bool) → place t s ≤ length s → cond x 0 (suc (place t s)) ≤ suc (length s)
     go true h = omega arith
     go false h = omega arith
-
--- where the text stands it has room
-pub begins-room : (t s : List ℕ) → begins t s ≡ true → length t ≤ length s
-begins-room [] s h = omega arith
-begins-room (a ∷ t) [] h = let z : _≡_ {A = ℕ} 0 1 = cc in absurd (omega arith)
-begins-room (a ∷ t) (b ∷ s) h = omega (arith, begins-room t s (and-both (eqb b a) (begins t s) h .1))
-
-pub place-room : (t s : List ℕ) → place t s < length s → place t s + length t ≤ length s
-place-room t [] h = absurd (omega arith)
-place-room t (b ∷ s) h = go (begins t (b ∷ s)) refl h (place-room t s)
-  where
-    go : (x : Bool) → begins t (b ∷ s) ≡ x → cond x 0 (suc (place t s)) < suc (length s) → (place t s < length s → place t s + length t ≤ length s) → cond x 0 (suc (place t s)) + length t ≤ suc (length s)
-    go true e h ih = omega (arith, begins-room t (b ∷ s) e)
-    go false e h ih = omega (arith, ih (omega arith))
 
 -- equal byte strings are one
 pub same-equal : (t s : List ℕ) → same t s ≡ true → t ≡ s

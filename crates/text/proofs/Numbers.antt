@@ -12,7 +12,7 @@ use lib.Seq.{drop-cons}
 use lib.Dec.{ltb, leb}
 use borrow.Author.Tests.{lt-ltb, le-leb, lt-leb, leb-true}
 use Rattle.laws.specs.Tests.{and-both}
-use Rattle.text.specs.Digits.{isDigit, allDigits, natFrom, natOf, digitsUpTo, hasPlus, plusWidth, numberUpTo}
+use Rattle.text.specs.Digits.{isDigit, allDigits, natFrom, natOf, digitsUpTo, plusWidth, numberUpTo}
 use Rattle.text.specs.declared.Found.the-variants.{Number, Nothing}
 
 pub digit-low : (b : ℕ) → b < 48 → isDigit b ≡ false
@@ -103,14 +103,6 @@ module _ (most : ℕ) (d : List ℕ) where
 -- a digit that takes the number over the largest one
 pub over : (most n : ℕ) (s : List ℕ) (i : ℕ) → i < length s → most < n * 10 + (getD s i 0 - 48) → most < natFrom n (drop i s)
 over most n s i h l = omega (arith, nat-ge (n * 10 + (getD s i 0 - 48)) (drop (i + 1) s), nat-next n s i h)
-
-pub plus-le : (s : List ℕ) → plusWidth s ≤ length s
-plus-le [] = omega arith
-plus-le (b ∷ s) = go (hasPlus (b ∷ s))
-  where
-    go : (t : Bool) → cond t 1 0 ≤ suc (length s)
-    go true = omega arith
-    go false = omega arith
 
 -- what is found keeps its bound
 pub digits-bound : (most : ℕ) (d : List ℕ) (n : ℕ) → digitsUpTo most d ≡ Number n → n ≤ most

@@ -1,6 +1,6 @@
 // Byte strings: where a text stands in another, parts, and unsigned numbers up to a largest one.
 ghost use mathlib.Core.Path.{_≡_};
-ghost use Prim.Native.Nat.{_+_, _≤_, _<_};
+ghost use Prim.Native.Nat.{min};
 ghost use lib.ListN.{length, take, drop};
 ghost use Rattle.text.specs.Bytes.{begins, ends, same, place, part};
 ghost use Rattle.text.specs.Digits.{isDigit, allDigits, hasPlus, plusWidth, digitsUpTo, numberUpTo};
@@ -17,41 +17,50 @@ fn wide(x: u8) -> u64
     x as u64
 }
 
-// What stands from a place on.
+// A place in a text, or its end if the place is past it.
+fn capped(s: &[u8], at: usize) -> usize
+    ensures { λ r. ⌜ r ≡ min at (length (now (s .entry))) ⌝ }
+{
+    if s.len() < at {
+        return s.len();
+    }
+    at
+}
+
+// What stands from a place on: nothing past the end.
 pub fn tail(s: &[u8], from: usize) -> &[u8]
-    requires { ⌜ from ≤ length (now s) ⌝ }
     ensures { λ r. ⌜ now r ≡ drop from (now (s .entry)) ⌝ }
 {
-    &s[from..]
+    let at = capped(s, from);
+    &s[at..]
 }
 
-// What stands before a place.
+// What stands before a place: all if it is past the end.
 pub fn head(s: &[u8], to: usize) -> &[u8]
-    requires { ⌜ to ≤ length (now s) ⌝ }
     ensures { λ r. ⌜ now r ≡ take to (now (s .entry)) ⌝ }
 {
-    &s[..to]
+    let end = capped(s, to);
+    &s[..end]
 }
 
-// So many bytes from a place on.
+// So many bytes from a place on, as far as the text goes.
 pub fn between(s: &[u8], from: usize, count: usize) -> &[u8]
-    requires { ⌜ from + count ≤ length (now s) ⌝ }
     ensures { λ r. ⌜ now r ≡ part from count (now (s .entry)) ⌝ }
 {
     head(tail(s, from), count)
 }
 
-// Whether the text stands at a place.
+// Whether the text stands at a place; past the end only an empty one does.
 pub fn begins_at(s: &[u8], at: usize, text: &[u8]) -> bool
-    requires { ⌜ at ≤ length (now s) ⌝ }
     ensures { λ r. ⌜ r ≡ begins (now (text .entry)) (drop at (now (s .entry))) ⌝ }
 {
-    if s.len() - at < text.len() {
+    let rest = tail(s, at);
+    if rest.len() < text.len() {
         return false;
     }
     let mut j = 0;
     while j < text.len() {
-        if s[at + j] != text[j] {
+        if rest[j] != text[j] {
             return false;
         }
         j += 1;

@@ -5,13 +5,13 @@ use Prim.Native.Nat.{ℕ, zero, suc, _+_, _*_, _/_, _%_, _≤_, _<_}
 use native.Mathlib.Numerals.{add-one}
 use native.Mathlib.Nat.{add-zero}
 use native.Mathlib.Omega.{arith}
-use lib.ListN.{length, getD, take, drop, length-append, drop-of-length-le}
-use lib.Seq.{take-suc, length-take-le, take-all, take-nil, take-take}
+use lib.ListN.{length, getD, take, length-append}
+use lib.Seq.{take-suc, length-take-le, take-take}
 use Rattle.grammar.specs.Expr.{concat}
 use Rattle.grammar.specs.Rows.{Row, row}
 use Rattle.fields.specs.Appended.{Appended}
 use Rattle.grammar.specs.Bytes.{twoBytes, headBytes, rowBytes, citeBytes}
-use Rattle.lexer.specs.Tokens.{startOf, sizeOf, cut, cuts}
+use Rattle.lexer.specs.Tokens.{cut, cuts}
 use Rattle.writer.specs.Unpacked.{rowOf, unpacked}
 
 rows-append : (a b : List Row) → rowBytes (a ++ b) ≡ rowBytes a ++ rowBytes b
@@ -137,18 +137,6 @@ size-first s vs i c h = rw (take-take i c vs h) at (size-all s (take c vs) i)
 -- the lengths of the first texts, and of one more
 pub size-next : (s vs : List ℕ) (i : ℕ) → i < length vs → length (concat (cuts s (take (i + 1) vs))) ≡ length (concat (cuts s (take i vs))) + length (cut s (getD vs i 0))
 size-next s vs i h = ap length (sym (texts-next s vs i h)) ∙ length-append (concat (cuts s (take i vs))) (cut s (getD vs i 0))
-
--- a place past the end
-pub cut-none : (s : List ℕ) (v start : ℕ) → start ≡ startOf v → length s < start → take 0 s ≡ cut s v
-cut-none s v start e h = let l : length s ≤ startOf v = omega arith in sym (ap (take (sizeOf v)) (drop-of-length-le s {i = startOf v} l) ∙ take-nil (sizeOf v))
-
--- a place that reaches the end
-pub cut-rest : (s rest : List ℕ) (v start size : ℕ) → start ≡ startOf v → size ≡ sizeOf v → rest ≡ drop start s → length rest < size → rest ≡ cut s v
-cut-rest s rest v start size e f r h = rw (← e, ← f, ← r) (sym (take-all size rest (omega arith)))
-
--- a place within
-pub cut-part : (s rest : List ℕ) (v start size : ℕ) → start ≡ startOf v → size ≡ sizeOf v → rest ≡ drop start s → take size rest ≡ cut s v
-cut-part s rest v start size e f r = rw (f, r, e)
 
 row-size : (v : ℕ) → length (rowBytes (rowOf v ∷ [])) ≡ 6
 unfolding rowBytes rowOf twoBytes

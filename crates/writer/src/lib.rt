@@ -3,8 +3,7 @@ use fields::put_text;
 use fields::put16;
 use lexer::size_of;
 use lexer::start_of;
-use text::head;
-use text::tail;
+use text::between;
 use tree::CITE_SIZE;
 use tree::HEAD_SIZE;
 use tree::ROW_SIZE;
@@ -22,16 +21,7 @@ ghost use Rattle.writer.specs.Unpacked.{rowOf, unpacked};
 fn cut_at(text: &[u8], place: u32) -> &[u8]
     ensures { λ r. ⌜ now r ≡ cut (now (text .entry)) place ⌝ }
 {
-    let start = start_of(place);
-    let size = size_of(place);
-    if text.len() < start {
-        return head(text, 0);
-    }
-    let rest = tail(text, start);
-    if rest.len() < size {
-        return rest;
-    }
-    head(rest, size)
+    between(text, start_of(place), size_of(place))
 }
 
 // The header of `n` nodes, `c` citations and `t` bytes of texts.

@@ -8,7 +8,6 @@ use borrow.Author.Tests.{lt-ltb, le-ltb}
 use Rattle.text.specs.Bytes.{same, place}
 use Rattle.text.specs.Digits.{numberUpTo}
 use Rattle.text.specs.declared.Found.the-variants.{Number, Nothing}
-use Rattle.text.proofs.Laws.{place-room}
 use Rattle.citation.specs.Pakete.{rangeOf, largestBound}
 use borrow.Author.Needs.{needs}
 use Rattle.citation.proofs.range_of.Statement.{statement}
@@ -49,7 +48,7 @@ add-tail : tie.Need-add-tail
 add-tail c = search needs
 
 tail-requires : tie.Need-tail-requires
-tail-requires c κs = omega (arith, c .before .before .before .before .before .before .find .ensures, place-room (46 ∷ 46 ∷ []) (c .before .before .before .before .before .before .before .before .before .args .r .now) (omega (arith, c .before .before .before .before .before .before .find .ensures)))
+tail-requires c κs = search needs
 
 slice-aggregate-same-bytes : tie.Need-slice-aggregate-same-bytes
 slice-aggregate-same-bytes c = search needs

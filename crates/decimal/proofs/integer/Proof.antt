@@ -3,7 +3,6 @@ use mathlib.Core.Path.{ap, _∙_}
 use mathlib.Core.List.{List, [], _∷_}
 use lib.ListN.{take}
 use Rattle.text.specs.Bytes.{place}
-use Rattle.text.proofs.Laws.{place-le}
 use Rattle.decimal.specs.Decimal.{integerOf}
 use borrow.Author.Needs.{needs}
 use Rattle.decimal.proofs.integer.Statement.{statement}
@@ -19,7 +18,7 @@ find-requires : tie.Need-find-requires
 find-requires c κs = search needs
 
 head-requires : tie.Need-head-requires
-head-requires c κs = rw (c .find .ensures) (place-le (46 ∷ []) (c .before .before .unsigned .result .now))
+head-requires c κs = search needs
 
 returns : tie.Need-returns
 unfolding integerOf

@@ -1,7 +1,6 @@
 use Prim.Native.Nat.{ℕ}
 use mathlib.Core.Path.{ap, _∙_}
 use lib.ListN.{drop}
-use Rattle.decimal.proofs.Orders.{sign-le}
 use borrow.Author.Needs.{needs}
 use Rattle.decimal.proofs.unsigned.Statement.{statement}
 use Rattle.decimal.proofs.unsigned.Tie as tie
@@ -10,7 +9,7 @@ sign-width-requires : tie.Need-sign-width-requires
 sign-width-requires c κs = search needs
 
 tail-requires : tie.Need-tail-requires
-tail-requires c κs = rw (c .sign-width .ensures) (sign-le (c .before .before .args .s .now))
+tail-requires c κs = search needs
 
 returns : tie.Need-returns
 returns c = c .tail .ensures ∙ ap (λ (n : ℕ). drop n (c .before .before .before .args .s .now)) (c .before .sign-width .ensures)

@@ -8,7 +8,6 @@ use Rattle.moment.proofs.day_boundary.Tie as tie
 use Rattle.text.specs.Bytes.{ends}
 use Rattle.moment.specs.Moments.{momentOf, dayBoundary}
 use Rattle.moment.specs.declared.Moment.the-variants.{At, NoMoment}
-use Rattle.moment.proofs.Laws.{moment-long}
 
 slice-aggregate-ends-with : tie.Need-slice-aggregate-ends-with
 slice-aggregate-ends-with c = search needs
@@ -42,9 +41,7 @@ is-mesz-requires : tie.Need-is-mesz-requires
 is-mesz-requires c κs = search needs
 
 begins-at-requires : tie.Need-begins-at-requires
-begins-at-requires c κs =
-    let g = c .before .before .before .moment .given .0 in
-    moment-long (c .before .before .before .before .before .before .before .before .before .before .before .before .args .value .now) (g .0) (g .1 .0) (g .1 .1 .0) (g .1 .1 .1 .0) (g .1 .1 .1 .1 .0) (sym (c .before .before .before .before .before .moment-of .ensures) ∙ c .before .before .before .moment .given .1)
+begins-at-requires c κs = search needs
 
 returns-3 : tie.Need-returns-3
 unfolding dayBoundary
@@ -57,9 +54,7 @@ returns-3 c =
     rw (e, m, u) (c .begins-at .ensures)
 
 begins-at-requires-2 : tie.Need-begins-at-requires-2
-begins-at-requires-2 c κs =
-    let g = c .before .before .before .moment .given .0 in
-    moment-long (c .before .before .before .before .before .before .before .before .before .before .before .before .args .value .now) (g .0) (g .1 .0) (g .1 .1 .0) (g .1 .1 .1 .0) (g .1 .1 .1 .1 .0) (sym (c .before .before .before .before .before .moment-of .ensures) ∙ c .before .before .before .moment .given .1)
+begins-at-requires-2 c κs = search needs
 
 returns-4 : tie.Need-returns-4
 unfolding dayBoundary

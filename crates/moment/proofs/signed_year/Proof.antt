@@ -1,8 +1,6 @@
 use native.Mathlib.Omega.{arith}
 use mathlib.Core.Path.{sym, ap, _∙_}
-use mathlib.Core.List.{[], _∷_}
 use Rattle.text.specs.Digits.{digitsUpTo}
-use Rattle.text.proofs.Laws.{begins-room}
 use Rattle.text.proofs.Numbers.{digits-bound, number-bound}
 use Rattle.moment.specs.Moments.{earlier, later}
 use borrow.Author.Needs.{needs}
@@ -16,7 +14,7 @@ begins-at-requires : tie.Need-begins-at-requires
 begins-at-requires c κs = search needs
 
 tail-requires : tie.Need-tail-requires
-tail-requires c κs = omega (arith, begins-room (45 ∷ []) (c .before .before .before .before .args .t .now) (sym (c .before .begins-at .ensures) ∙ c .if1 .taken))
+tail-requires c κs = search needs
 
 digits-up-to-requires : tie.Need-digits-up-to-requires
 digits-up-to-requires c κs = search needs

@@ -1,4 +1,3 @@
-use native.Mathlib.Omega.{arith}
 use Rattle.refusal.specs.declared.Refusal.the-variants.{NoStatusWord}
 use Rattle.reader.proofs.Statuses.{first-at, refused-status, no-word, is-word}
 use borrow.Author.Needs.{needs}
@@ -12,7 +11,7 @@ sub-between : tie.Need-sub-between
 sub-between c = let s = c .before .before .before .before .args .text .now in let w = c .first-word .result in let f = first-at s w (c .before .before .before .before .pre .2) (c .first-word .ensures) in f .order
 
 between-requires : tie.Need-between-requires
-between-requires c κs = let s = c .before .before .before .before .args .text .now in let w = c .first-word .result in let f = first-at s w (c .before .before .before .before .pre .2) (c .first-word .ensures) in omega (arith, f .order, f .room)
+between-requires c κs = search needs
 
 from-word-requires : tie.Need-from-word-requires
 from-word-requires c κs = search needs

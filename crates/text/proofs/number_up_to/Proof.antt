@@ -2,7 +2,6 @@ use Prim.Native.Nat.{ℕ}
 use mathlib.Core.Path.{ap, _∙_}
 use lib.ListN.{drop}
 use Rattle.text.specs.Digits.{digitsUpTo, numberUpTo}
-use Rattle.text.proofs.Numbers.{plus-le}
 use borrow.Author.Needs.{needs}
 use Rattle.text.proofs.number_up_to.Statement.{statement}
 use Rattle.text.proofs.number_up_to.Tie as tie
@@ -11,7 +10,7 @@ plus-width-requires : tie.Need-plus-width-requires
 plus-width-requires c κs = search needs
 
 tail-requires : tie.Need-tail-requires
-tail-requires c κs = rw (c .plus-width .ensures) (plus-le (c .before .before .args .s .now))
+tail-requires c κs = search needs
 
 digits-up-to-requires : tie.Need-digits-up-to-requires
 digits-up-to-requires c κs = search needs

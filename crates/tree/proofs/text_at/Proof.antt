@@ -1,6 +1,5 @@
-use native.Mathlib.Omega.{arith}
 use mathlib.Core.Path.{sym, _∙_}
-use Rattle.tree.proofs.Cites.{text-inside, text-is}
+use Rattle.tree.proofs.Cites.{text-is}
 use borrow.Author.Needs.{needs}
 use Rattle.tree.proofs.text_at.Statement.{statement}
 use Rattle.tree.proofs.text_at.Tie as tie
@@ -12,8 +11,7 @@ text-size-requires : tie.Need-text-size-requires
 text-size-requires c κs = search needs
 
 between-requires : tie.Need-between-requires
-between-requires c κs = let p = c .before .before .before .pre in
-    omega (arith, text-inside (c .before .before .before .args .tree .now) (p .0) (c .before .before .before .args .number) (p .1), c .before .text-start .ensures .0, c .text-size .ensures .0)
+between-requires c κs = search needs
 
 returns : tie.Need-returns
 returns c = let p = c .before .before .before .before .pre in
