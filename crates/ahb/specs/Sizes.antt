@@ -84,7 +84,7 @@ unfolding violations
 violations-few value e f =
     cond-both (λ (l : List ℕ). Few (length l)) (isFalse (truth value e)) (violated value 0 e) [] (λ _. omega (arith, violated-few value 0 e, f .few)) λ _. omega arith
 
--- a tree keeps document 01's limits
+-- a tree is that of an expression that fits the limits
 pub tree-fits : (b : List ℕ) (e : Expr) → treeOf b ≡ ok e → Fits e
 unfolding treeOf
 tree-fits b e h =

@@ -1,7 +1,8 @@
 // Reads three lines from standard input, a status, answers and a value, and writes what they come to.
 //
-// A line ends before its line feed; a missing line is empty; a carriage return is a byte like any
-// other. What comes after the third line is not looked at.
+// A line feed ends a line and is no part of it. Of an input with fewer lines the others are empty.
+// A carriage return is a byte like any other, so lines that end with one are refused by 16. What
+// comes after the third line is not looked at.
 ghost use Prim.Native.Nat.{_≤_, _<_};
 ghost use lib.ListN.{length};
 ghost use Rattle.line.specs.Sizes.{longestReport};

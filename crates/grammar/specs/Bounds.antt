@@ -171,7 +171,7 @@ print-room (cite t) r = cite-room t
 print-room (Then es) r = omega (arith, listed-size (inBytes .gap) (omega arith) es (r .0) (r .1))
 print-room (join o es) r = omega (arith, listed-size (signBytes o) (sign-size o) es (r .0) (r .1))
 
--- a print is at most 4,343 bytes long
+-- no print is longer than 4,343 bytes
 pub print-short : (e : Expr) → Fits e → length (printed e) ≤ printLimit
 unfolding print citations room
 print-short (cite t) f = omega (arith, cite-room t, f .small, f .few)

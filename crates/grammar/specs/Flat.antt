@@ -1,4 +1,4 @@
--- The flat tree. Assumes nothing.
+-- The flat tree (a term of document 01; docs/FORMAT.md, 'The printed form'). Assumes nothing.
 use mathlib.Core.Path.{_≡_, refl, sym, _∙_}
 use mathlib.Core.List.{List, _++_, append-assoc, append-nil}
 use Rattle.grammar.specs.Expr.{Expr, Exprs, cite, Then, join, none, more, _◂_, _⧺_, Some, Two, Wide, Wides, citations, citationsOf, some-append, two-append, wides-append, citations-append}
@@ -11,7 +11,7 @@ operands (Then es) = es
 operands (join o es) = join o es ◂ none
 
 unfoldable mutual
-  -- the flat tree: while an operand of a Then is itself a Then, its own operands take its place
+  -- the flat tree: a Then inside a Then is opened up, at every depth, so that the operands of both are one run
   pub flat : Expr → Expr
   flat (cite t) = cite t
   flat (Then es) = Then (spliced es)
@@ -36,7 +36,7 @@ citations-operands (join o es) = rw append-nil
 mutual
   unfolding citations flat
 
-  -- the citations, their numbers and texts stay
+  -- it cites what the tree cites, in the same order, so each citation keeps its number and its text
   pub citations-flat : (e : Expr) → citations (flat e) ≡ citations e
   citations-flat (cite t) = refl
   citations-flat (Then es) = citations-spliced es

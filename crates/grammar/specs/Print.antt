@@ -48,7 +48,7 @@ module _ {A : Type 0} (s : Style A) where
 abbrev pub inTokens : Style Tok
 inTokens = record { word = λ t. cited t ∷ []; gap = []; sign = λ o. op o ∷ []; left = opening ∷ []; right = closing ∷ [] }
 
--- an operator with a space on each side
+-- an operator's sign between two spaces
 unfoldable pub signBytes : Op → List ℕ
 signBytes o = encode (blankChar ∷ symbol o ∷ blankChar ∷ [])
 

@@ -7,7 +7,7 @@ use lib.ListN.{length, getD, drop, length-append}
 use lib.Seq.{drop-drop, getD-drop, drop-append-seam}
 use Rattle.grammar.specs.Expr.{Op, And, Or, Xor, Expr, Exprs, cite, Then, join, none, more, _◂_, _⧺_, citations, citationsOf, count, append-none}
 
--- a node row: kind, number of children (for a citation, its number), rows in the subtree
+-- a node row: kind; how many children, or which citation; how many rows in the subtree
 pub data Row : Type 0 where
   row : (kind number size : ℕ) → Row
 

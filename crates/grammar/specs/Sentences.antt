@@ -1,4 +1,4 @@
--- Document 01's sentences on reading, for all tokens that parse. Assumes nothing.
+-- The rules of reading in words (docs/FORMAT.md, 'Texts'), for all tokens that parse. Assumes nothing.
 use mathlib.Core.Path.{_≡_, refl, sym, ap, _∙_, subst}
 use mathlib.Core.List.{List, [], _∷_, _++_, append-assoc, append-nil}
 use Prim.Native.Nat.{ℕ}
@@ -74,7 +74,7 @@ unfolding grow whole
 grow-other (lead a) o b n = grow-fresh a o b n
 grow-other (chain p es) o b n = rw n
 
--- a run of juxtaposed operands is one node
+-- juxtaposed operands, two or more, are one Then
 pub juxtaposed-one-node : (ts : List Tok) (es : Exprs) → Run ts es → Two es → parse ts ≡ ok (Then es)
 unfolding parse value whole
 juxtaposed-one-node ts es r h = run-ends ts es r start ∙ ap ok (gather-two es h)
@@ -144,7 +144,7 @@ pub juxtaposition-tighter : (o : Op) (ts us : List Tok) (es fs : Exprs) → Run 
 juxtaposition-tighter o ts us es fs r k h g =
     operators-group-left o ts us (Then es) fs (juxtaposed-one-node ts es r h) k tt ∙ ap (λ x. ok (join o (Then es ◂ x ◂ none))) (gather-two fs g)
 
--- a citation runs to the first `]`; its text is kept with its spaces; white space only is empty
+-- a citation ends at the first `]`; spaces belong to its text; one of white space alone is refused by 3
 pub citation-to-first-end : (t cs : List ℕ) → holds citeEnd t ≡ false
     → lex (citeBegin ∷ (t ++ (citeEnd ∷ cs))) ≡ cond (blank t) (refuse EmptyCondition) (also (cited (encode t)) (lex cs))
 unfolding inside inner

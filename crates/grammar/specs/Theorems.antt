@@ -39,7 +39,7 @@ flat-fits e f = record {
   citable = rw (citations-flat e) (f .citable);
 }
 
--- a print is at most 4,343 bytes long
+-- no print is longer than 4,343 bytes
 pub print-short : (e : Expr) → Fits e → length (printed e) ≤ printLimit
 print-short = bounds.print-short
 

@@ -1,4 +1,4 @@
--- The lines that `ahbline` writes for its three lines (document 01). Assumes nothing.
+-- The lines that `ahbline` writes for its three lines (docs/FORMAT.md, 'The report'). Assumes nothing.
 use mathlib.Core.List.{List, [], _∷_, _++_}
 use mathlib.Core.Bool.{cond}
 use Prim.Native.Nat.{ℕ, _+_, _/_, _%_}

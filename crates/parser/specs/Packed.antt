@@ -4,7 +4,7 @@ use Prim.Native.Nat.{ℕ, suc, _+_, _*_}
 use Rattle.grammar.specs.Expr.{Expr, Exprs, cite, Then, join, none, more, count}
 use Rattle.grammar.specs.Rows.{Row, row, citeKind, thenKind, opKind, many, spans, children}
 
--- a row as one number: kind, number of children (for a citation, its number), rows in the subtree
+-- a row as one number: kind; how many children, or which citation; how many rows in the subtree
 abbrev pub pack : (kind number size : ℕ) → ℕ
 pack k m z = k * 4294967296 + m * 65536 + z
 

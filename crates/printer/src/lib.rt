@@ -28,7 +28,7 @@ pub enum Displayed {
     Refused(Refusal),
 }
 
-// An operator with a space on each side, by its node's kind.
+// An operator's sign between two spaces, by its node's kind.
 fn put_sign(kind: usize, out: &mut [u8], at: usize) -> usize
     requires { ⌜ (1 < kind) × (kind ≤ 4) × (at + length (separator kind) ≤ length (now out)) ⌝ }
     ensures { λ r. ⌜ Appended (separator kind) at (now (out .entry)) (now (out .exit)) r ⌝ }

@@ -1,4 +1,4 @@
--- The refusals' numbers (document 01, 'Turned back, with number'). Assumes nothing.
+-- The refusals' numbers (README, 'What is turned back'). Assumes nothing.
 use Prim.Native.Nat.{ℕ, _-_}
 use mathlib.Core.Path.{refl}
 use mathlib.Core.List.{List, [], _∷_}

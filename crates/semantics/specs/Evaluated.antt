@@ -87,7 +87,7 @@ fit-set e answers k x h t =
     and-intro (eqb (length (set answers k x)) (count e)) (all (λ b. leb b failed) (set answers k x))
     (rw (length-set answers k x) (s .0)) (all-set (λ b. leb b failed) answers k x (le-leb x failed h) (s .1))
 
--- another answer from 0 to 4 at a dropped citation changes nothing
+-- the answer to a dropped citation does not matter, as long as it is one of the five
 pub dropped-free : (tree answers : List ℕ) (e : Expr) (k x : ℕ) → treeOf tree ≡ ok e → answersFit e answers ≡ true
     → evaluates k 0 e ≡ false → x ≤ failed → evalAnswer tree (set answers k x) ≡ evalAnswer tree answers
 unfolding evalAnswer then

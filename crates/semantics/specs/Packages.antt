@@ -1,4 +1,4 @@
--- Package rows: the bounds of the Paket citations (document 01, `pakete`). Assumes nothing.
+-- Package rows: the bounds of the Paket citations (docs/SEMANTICS.md, 'Package bounds'; docs/FORMAT.md for their bytes). Assumes nothing.
 use mathlib.Core.List.{List, [], _∷_, _++_}
 use mathlib.Core.Bool.{Bool, true, false, cond}
 use Prim.Native.Nat.{ℕ, zero, suc, _/_, _%_}

@@ -1,4 +1,4 @@
--- Presence: whether a place is to be filled (document 01, corners of `conditions.rs`). Assumes nothing.
+-- Presence: whether a field is to be filled (docs/SEMANTICS.md, 'Presence'). Assumes nothing.
 use mathlib.Core.List.{List, [], _∷_}
 use mathlib.Core.Bool.{Bool, true, false, cond, not, _&&_, _||_}
 use Prim.Native.Nat.{ℕ, _+_}
@@ -26,7 +26,7 @@ isHinweis Zeitpunkt = false
 isHinweis Paket = false
 isHinweis Other = false
 
--- the kind gates the place: a Voraussetzung or a Paket
+-- the kind gates the field: a Voraussetzung or a Paket
 abbrev pub isGate : ConditionKind → Bool
 isGate Voraussetzung = true
 isGate Hinweis = false
@@ -60,7 +60,7 @@ unfoldable pub someFree : Exprs → Bool
 someFree none = false
 someFree (more e es) = (not (dropped e) && not (gates (citations e))) || someFree es
 
--- a choice mixes: some but not all of the kept operands cite a Voraussetzung or a Paket
+-- a choice mixes: one kept operand gates, and another does not
 abbrev pub mixes : Exprs → Bool
 mixes es = someGate es && someFree es
 

@@ -1,4 +1,4 @@
--- How the truths of operands combine (document 01, corners of `conditions.rs`). Assumes nothing.
+-- How the truths of operands combine (docs/SEMANTICS.md, 'Presence'). Assumes nothing.
 use mathlib.Core.List.{List, [], _∷_}
 use mathlib.Core.Bool.{Bool, true, false, cond, _||_}
 use Rattle.citation.specs.declared.Truth.{Truth}
@@ -38,11 +38,11 @@ module _ {A : Type 0} where
   any p [] = false
   any p (x ∷ xs) = p x || any p xs
 
--- Then and And: False if any is, else Unknown if any is, else True if any is; all Neutral is Neutral
+-- Then and And: False decides before Unknown, Unknown before True; Neutral where nothing else stands
 unfoldable pub andRule : List Truth → Truth
 andRule vs = cond (any isFalse vs) False (cond (any isUnknown vs) Unknown (cond (any isTrue vs) True Neutral))
 
--- Or, the Neutral aside: True if any is, else Unknown if any is, else False; none left is Neutral
+-- Or: True decides before Unknown, Unknown before False; Neutral where nothing else stands
 unfoldable pub orRule : List Truth → Truth
 orRule vs = cond (any isTrue vs) True (cond (any isUnknown vs) Unknown (cond (any isFalse vs) False Neutral))
 
@@ -51,6 +51,6 @@ unfoldable pub twoTrue : List Truth → Bool
 twoTrue [] = false
 twoTrue (v ∷ vs) = cond (isTrue v) (any isTrue vs) (twoTrue vs)
 
--- Xor, the Neutral aside: False if two or more are True, else Unknown if any is, else True for one True, False for none; none left is Neutral
+-- Xor: two that are True make it False, then Unknown decides before a single True, and that before False; Neutral where nothing else stands
 unfoldable pub xorRule : List Truth → Truth
 xorRule vs = cond (twoTrue vs) False (cond (any isUnknown vs) Unknown (cond (any isTrue vs) True (cond (any isFalse vs) False Neutral)))

@@ -1,4 +1,4 @@
--- Document 01's sentences on presence, as laws. Assumes nothing.
+-- The rules of presence in words (docs/SEMANTICS.md, 'Presence'), as laws. Assumes nothing.
 use mathlib.Core.Path.{_≡_, refl, sym, ap}
 use mathlib.Core.List.{List, [], _∷_}
 use mathlib.Core.Bool.{Bool, true, false, cond, _&&_, _||_, false≢true}
@@ -24,7 +24,7 @@ abbrev pub filled : List Truth → List Truth
 filled [] = []
 filled (v ∷ vs) = cond (isNeutral v) (filled vs) (v ∷ filled vs)
 
--- Then and And give False if any is False, else Unknown if any is, else Neutral if all are, else True
+-- Then and And: a False operand decides, then an Unknown one; Neutral operands alone are Neutral, and anything else is True
 pub and-says : (vs : List Truth) → andRule vs ≡ cond (any isFalse vs) False (cond (any isUnknown vs) Unknown (cond (onlyNeutral vs) Neutral True))
 unfolding andRule any
 and-says [] = refl
@@ -56,12 +56,12 @@ two-filled (Unknown ∷ vs) = two-filled vs
 two-filled (True ∷ vs) = any-filled isTrue refl vs
 two-filled (Neutral ∷ vs) = two-filled vs
 
--- Or of values none of which is Neutral: none left is Neutral; else True if one is, else Unknown if one is, else False
+-- Or of values none of which is Neutral: Neutral if there is none; a True one decides, then an Unknown one, and False is what remains
 abbrev pub orOfFilled : List Truth → Truth
 orOfFilled [] = Neutral
 orOfFilled (v ∷ vs) = cond (any isTrue (v ∷ vs)) True (cond (any isUnknown (v ∷ vs)) Unknown False)
 
--- Xor of such values: none left is Neutral; else False for two True or more, else Unknown if one is, else True for one True, False for none
+-- Xor of such values: Neutral if there is none; two that are True make it False, then an Unknown one decides, then a True one, and False is what remains
 abbrev pub xorOfFilled : List Truth → Truth
 xorOfFilled [] = Neutral
 xorOfFilled (v ∷ vs) = cond (twoTrue (v ∷ vs)) False (cond (any isUnknown (v ∷ vs)) Unknown (cond (any isTrue (v ∷ vs)) True False))
@@ -129,7 +129,7 @@ module _ (oracle : ℕ → Result Truth) where
   unfolding values
   values-kept choosing n e es h = rw h
 
-  -- so the first refusal met is returned
+  -- so of several refusals the leftmost is returned
   pub values-refused : (choosing : Bool) (n k : ℕ) (e : Expr) (es : Exprs) → (choosing && dropped e) ≡ false
       → presence oracle n e ≡ refused k → values oracle choosing n (e ◂ es) ≡ refused k
   unfolding before

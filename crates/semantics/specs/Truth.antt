@@ -1,4 +1,4 @@
--- Format truth: whether a value is right by the Format and Zeitpunkt conditions (document 01, `truth`). Its answer is a truth and no refusal, so 7 and 8 never arise. Assumes nothing.
+-- Format truth: whether a value is right by the Format and Zeitpunkt conditions (docs/SEMANTICS.md, 'Format truth and violations'). It is a truth and no answer that could be 7 or 8. Assumes nothing.
 use mathlib.Core.List.{List, [], _∷_}
 use mathlib.Core.Bool.{Bool, true, false, cond}
 use Prim.Native.Nat.{ℕ}
@@ -28,7 +28,7 @@ module _ (value : List ℕ) where
   citedTruth t = cond (isJudged (kindOf t)) (verdictTruth (verdict t value)) True
 
   unfoldable mutual
-    -- the format truth of an expression: nodes combine as in presence, but Xor acts as Or, and no operand is dropped
+    -- the format truth of an expression, by the rules of presence; but a Xor is judged as an Or is, and every operand counts
     pub truth : Expr → Truth
     truth (cite t) = citedTruth t
     truth (Then es) = andRule (truths es)

@@ -98,7 +98,7 @@ module _ (oracle : ℕ → Result Truth) where
   mutual
     unfolding presence evaluates any
 
-    -- presence is Unknown only if an evaluated citation's answer is
+    -- an Unknown presence comes from a citation that is evaluated and answered with Unknown
     pub unknown-cited : (n : ℕ) (e : Expr) → presence oracle n e ≡ ok Unknown → UnknownAmong (λ k. evaluates k n e)
     unknown-cited n (cite t) h = record { number = n; isEvaluated = eq-eqb n n refl; answer = h }
     unknown-cited n (Then es) h = values-unknown false n es (given andRule and-telling _ h)

@@ -1,4 +1,4 @@
--- The violated citations (document 01, `violations`). Assumes nothing.
+-- The violated citations (docs/SEMANTICS.md, 'Format truth and violations'). Assumes nothing.
 use mathlib.Core.List.{List, [], _∷_, _++_}
 use mathlib.Core.Bool.{cond}
 use Prim.Native.Nat.{ℕ, _+_}
@@ -20,7 +20,7 @@ module _ (value : List ℕ) where
     violatedOf n none = []
     violatedOf n (more e es) = violated n e ++ violatedOf (n + count e) es
 
-  -- the violations: every violated citation's number if the whole is False, and nothing otherwise
+  -- the violations: the numbers of all violated citations if the format truth is False, else none
   unfoldable pub violations : Expr → List ℕ
   violations e = cond (isFalse (truth value e)) (violated 0 e) []
 
