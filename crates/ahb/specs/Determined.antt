@@ -6,18 +6,14 @@ use native.Mathlib.Omega.{arith}
 use lib.Dec.{eqb}
 use Rattle.laws.specs.Tests.{cond-both}
 use Rattle.refusal.specs.Result.{Result, ok, refused}
-use Rattle.refusal.specs.Known.{Among, Known, lastRefusal, named-most, among-known, map-among, map-known, then-known}
+use Rattle.refusal.specs.Known.{Among, Known, lastRefusal, named-most, among-known, map-among, map-known}
 use Rattle.status.specs.declared.StatusKind.{StatusKind}
 use Rattle.status.specs.declared.StatusKind.the-variants.{Muss, Soll, Kann, X, M, S, K}
 use Rattle.status.specs.Status.{codeOf, code-injective}
-use Rattle.utf8.specs.Limits.{valueLimit}
 use Rattle.citation.specs.Truths.{truthNumber, truth-number-injective}
-use Rattle.grammar.specs.Bytes.{treeOf}
 use Rattle.grammar.specs.Outcome.{answerOf, StatusSaid, wordAlone, withTree, parseAnswer, statusAnswer}
-use Rattle.grammar.specs.Known.{admitted-among, tree-of-known}
-use Rattle.semantics.specs.Truth.{truth}
 use Rattle.semantics.specs.Answers.{evalAnswer, truthAnswer, violationsAnswer}
-use Rattle.semantics.specs.Known.{eval-known}
+use Rattle.semantics.specs.Known.{eval-known, truth-known}
 use Rattle.ahb.specs.Numbers.{acceptedFrom, presentFrom, answerNumber, ReadSaid, expression, status, saidNumber, readNumber, presenceNumber, verdictNumber}
 use Rattle.ahb.specs.Answers.{saidBy, truthWritten, readAnswer, verdictsAnswer}
 use Rattle.ahb.specs.Sizes.{Short, ShortStatus, CountFew, answer-among, parse-outcome, status-outcome, violations-outcome}
@@ -88,10 +84,6 @@ pub presence-determined : (tree tree′ answers answers′ : List ℕ)
     → presenceNumber (evalAnswer tree answers) ≡ presenceNumber (evalAnswer tree′ answers′) → evalAnswer tree answers ≡ evalAnswer tree′ answers′
 presence-determined tree tree′ answers answers′ =
     answer-number-injective presentFrom truthNumber (λ _. Unit {0}) (λ a b _ _. truth-number-injective a b) (omega arith) _ _ (eval-known tree answers) (eval-known tree′ answers′)
-
-pub truth-known : (tree value : List ℕ) → Known (truthAnswer tree value)
-unfolding truthAnswer
-truth-known tree value = then-known (treeOf tree) _ (tree-of-known tree) λ e. admitted-among (λ _. Unit {0}) valueLimit value (ok (truth value e)) tt
 
 verdicts-known : (mode : ℕ) (tree value : List ℕ) → Known (verdictsAnswer mode tree value)
 unfolding verdictsAnswer

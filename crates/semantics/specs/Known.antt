@@ -1,4 +1,4 @@
--- Every refusal of presence is one of the table. Assumes nothing.
+-- Every refusal of presence and of format truth is one of the table. Assumes nothing.
 use mathlib.Core.Path.{_≡_, refl}
 use mathlib.Core.List.{List}
 use mathlib.Core.Bool.{Bool, true, false, _&&_, not}
@@ -9,15 +9,17 @@ use Rattle.laws.specs.Tests.{cond-both}
 use Rattle.refusal.specs.Result.{Result, ok, refused, refuse, unless}
 use Rattle.refusal.specs.Known.{Known, unless-among, map-known, then-known}
 use Rattle.refusal.specs.declared.Refusal.the-variants.{ChoiceOverNeutral, FailedAnswer, WrongAnswers}
+use Rattle.utf8.specs.Limits.{valueLimit}
 use Rattle.citation.specs.declared.Truth.{Truth}
 use Rattle.citation.specs.declared.Truth.the-variants.{False, Unknown, True, Neutral}
 use Rattle.citation.specs.Truths.{truthNumber}
 use Rattle.grammar.specs.Expr.{And, Or, Xor, Expr, Exprs, cite, Then, join, none, more, count}
 use Rattle.grammar.specs.Bytes.{treeOf}
-use Rattle.grammar.specs.Known.{tree-of-known}
+use Rattle.grammar.specs.Known.{admitted-among, tree-of-known}
 use Rattle.semantics.specs.Rules.{andRule, orRule, xorRule}
 use Rattle.semantics.specs.Presence.{failed, mixes, before, valued, dropped, presence, values, answered, oracleOf, answersFit}
-use Rattle.semantics.specs.Answers.{presenceBy, evalAnswer}
+use Rattle.semantics.specs.Truth.{truth}
+use Rattle.semantics.specs.Answers.{presenceBy, evalAnswer, truthAnswer}
 
 answered-known : (b : ℕ) → Known (answered b)
 unfolding answered
@@ -58,3 +60,8 @@ unfolding evalAnswer
 eval-known b answers =
     then-known (treeOf b) (λ e. unless (answersFit e answers) WrongAnswers (presenceBy answers e)) (tree-of-known b)
     λ e. unless-among (λ _. Unit {0}) (answersFit e answers) WrongAnswers (presenceBy answers e) (presence-known answers 0 e)
+
+-- the refusals of format truth
+pub truth-known : (tree value : List ℕ) → Known (truthAnswer tree value)
+unfolding truthAnswer
+truth-known tree value = then-known (treeOf tree) _ (tree-of-known tree) λ e. admitted-among (λ _. Unit {0}) valueLimit value (ok (truth value e)) tt

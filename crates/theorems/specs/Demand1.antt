@@ -40,10 +40,9 @@ use Rattle.semantics.specs.Presence.{answersFit}
 use Rattle.semantics.specs.Packages.{pakete}
 use Rattle.semantics.specs.Truth.{truth}
 use Rattle.semantics.specs.Answers.{presenceBy, evalAnswer, truthAnswer, violationsAnswer, evalAndTruthAnswer, rowed, paketeAnswer}
-use Rattle.semantics.specs.Known.{presence-known, eval-known}
+use Rattle.semantics.specs.Known.{presence-known, eval-known, truth-known}
 use Rattle.tree.specs.Cited.{citedPlace, citedAnswer}
 use Rattle.ahb.specs.Sizes.{Short, ShortStatus, Few, CountFew, answer-among, parse-among, status-among, violations-among}
-use Rattle.ahb.specs.Determined.{truth-known}
 
 -- Lent memory.
 
