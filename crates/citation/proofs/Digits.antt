@@ -1,16 +1,15 @@
 -- The kind of a text that is digits alone. Assumes nothing.
-use Prim.Native.Nat.{ℕ, suc}
-use mathlib.Core.Path.{_≡_, refl, sym, ap, _∙_}
-use mathlib.Core.Bool.{Bool, true, false, cond, _&&_, false≢true}
+use Prim.Native.Nat.{ℕ}
+use mathlib.Core.Path.{_≡_, refl, sym, ap}
+use mathlib.Core.Bool.{Bool, true, false, cond, _&&_}
 use mathlib.Core.List.{List, [], _∷_}
 use native.Mathlib.Omega.{arith}
 use lib.ListN.{length}
 use lib.Dec.{ltb, leb}
-use borrow.Author.Tests.{le-ltb, ne-eqb}
 use Rattle.laws.specs.Tests.{and-both}
-use Rattle.text.specs.Bytes.{begins, place, has}
-use Rattle.text.specs.Digits.{isDigit, allDigits, natOf, digitsUpTo, numberUpTo}
+use Rattle.text.specs.Digits.{allDigits, natOf, digitsUpTo, numberUpTo}
 use Rattle.text.specs.declared.Found.the-variants.{Number, Nothing}
+use Rattle.text.proofs.Numbers.{not-front, not-in}
 use Rattle.citation.specs.Kinds.{kindOfNumber, kindOfFound, largestNumber, kindOf}
 
 -- where a number is found, every byte is a digit
@@ -22,23 +21,6 @@ digits-all most d n e = go (ltb 0 (length d) && (allDigits d && leb (natOf d) mo
         let q = and-both (ltb 0 (length d)) (allDigits d && leb (natOf d) most) h in
         and-both (allDigits d) (leb (natOf d) most) (q .1) .0
     go false h f = let q : _≡_ {A = ℕ} 0 1 = cc in absurd (omega arith)
-
--- nothing that begins with another byte than a digit stands among digits
-module _ (x : ℕ) (t : List ℕ) (no : isDigit x ≡ false) where
-  not-front : (s : List ℕ) → allDigits s ≡ true → begins (x ∷ t) s ≡ false
-  not-front [] a = refl
-  not-front (b ∷ s) a =
-      let d = and-both (isDigit b) (allDigits s) a .0 in
-      rw (ne-eqb b x (λ e. false≢true (sym no ∙ ap isDigit (sym e) ∙ d)))
-
-  place-none : (s : List ℕ) → allDigits s ≡ true → place (x ∷ t) s ≡ length s
-  place-none [] a = refl
-  place-none (b ∷ s) a =
-      let q = and-both (isDigit b) (allDigits s) a in
-      rw (not-front (b ∷ s) a) (ap suc (place-none s (q .1)))
-
-  not-in : (s : List ℕ) → allDigits s ≡ true → has (x ∷ t) s ≡ false
-  not-in s a = rw (place-none s a) (le-ltb (length s) (length s) (omega arith))
 
 -- digits alone are the number that they write
 pub digits-kind : (s : List ℕ) (n : ℕ) → digitsUpTo largestNumber s ≡ Number n → kindOfNumber n ≡ kindOf s

@@ -4,19 +4,20 @@ use Prim.Native.Nat.{ℕ, zero, suc, _+_, _-_, _*_, _%_, _^_, _≤_, _<_, _∣_}
 use mathlib.Core.Path.{_≡_, refl, sym, ap, ap₂, _∙_, subst}
 use mathlib.Core.Logic.{_↔_}
 use mathlib.Core.Bool.{Bool, true, false, cond}
-use mathlib.Core.List.{List, [], _∷_, _++_, append-assoc}
+use mathlib.Core.List.{List, [], _∷_, _++_, append-assoc, append-nil}
 use native.Mathlib.Nat.{add-mul, mul-assoc, mul-le-mul-right, one-le-pow, lt-of-mul-lt-mul-right, mul-lt-mul-of-pos-right, mul-right-comm, pow-le-pow-right, dvd-mul-left, dvd-of-mul-dvd-mul-right, mul-dvd-mul-right, mod-eq-zero-of-dvd}
 use native.Mathlib.Omega.{arith}
 use native.Mathlib.Decide.{decLt}
-use lib.ListN.{length, take, drop, length-drop, take-append-drop}
+use lib.ListN.{length, take, drop, length-drop, take-append-drop, drop-of-length-le}
+use lib.Seq.{take-length}
 use lib.Arith.{digits-mod}
 use lib.Pow.{pow-add}
 use lib.Dec.{ltb, leb}
-use borrow.Author.Tests.{ltb-true, leb-true, le-leb, eqb-true, eqb-false}
+use borrow.Author.Tests.{lt-ltb, ltb-true, leb-true, le-leb, eqb-true, eqb-false}
 use Rattle.laws.specs.Tests.{and-both}
 use Rattle.text.specs.Bytes.{all}
 use Rattle.text.specs.Digits.{isDigit, allDigits, natFrom, natOf}
-use Rattle.text.proofs.Numbers.{digit-range, nat-append, nat-shift, nat-lt}
+use Rattle.text.proofs.Numbers.{digit-range, nat-append, nat-shift, nat-lt, not-front, place-none}
 use Rattle.decimal.specs.declared.Order.the-variants.{Less, Equal, Greater, NoNumber}
 use Rattle.decimal.specs.Decimal.{isNegative, isZero, isNumber, integerOf, fractionOf, signed, exactOf, orderℕ, orderOf, Exact, against, integerDigits, fractionDigits, integerAtMost, fractionAtMost}
 use Rattle.decimal.specs.Signs.{flip}
@@ -211,3 +212,27 @@ fraction-exact s k h =
     let d = number-digits s h in
     sized (λ (n p : ℕ). (fractionAtMost s k ≡ true) ↔ (10 ^ p ∣ n * 10 ^ k)) (isNegative s) (natOf (integerOf s ++ fractionOf s)) (length (fractionOf s))
     (λ e. fraction-whole (integerOf s) (fractionOf s) k (d .0) (d .1) (and-both (isNumber s) (leb (fractionDigits (fractionOf s)) k) e .1), λ l. rw h (fraction-few (integerOf s) (fractionOf s) k (d .0) (d .1) l))
+
+-- digits alone: all of them stand before the point
+digits-parts : (s : List ℕ) → allDigits s ≡ true → (integerOf s ≡ s) × (fractionOf s ≡ [])
+unfolding integerOf fractionOf
+digits-parts s a =
+    let m = not-front 45 [] refl s a in
+    let p = not-front 43 [] refl s a in
+    let d = place-none 46 [] refl s a in
+    (rw (m, p, d) (take-length s), rw (m, p, d) (drop-of-length-le s {i = length s + 1} (omega arith)))
+
+-- one digit or more, and nothing else, are a number; its value is the number that they write
+pub digits-number : (s : List ℕ) → allDigits s ≡ true → 0 < length s → isNumber s ≡ true
+digits-number s a h =
+    let q = digits-parts s a in
+    rw (q .0, q .1, a) (lt-ltb 0 (length s + 0) (omega arith))
+
+pub digits-exact : (s : List ℕ) → allDigits s ≡ true → exactOf s ≡ signed false (natOf s) 0
+digits-exact s a =
+    let q = digits-parts s a in
+    rw (q .0, q .1, not-front 45 [] refl s a) (ap (λ (l : List ℕ). signed false (natOf l) 0) (append-nil s))
+
+-- the order of integers that are not below zero is that of natural numbers
+pub whole-order : (m n : ℕ) → orderOf (signed false m 0) (signed false n 0) ≡ orderℕ m n
+whole-order m n = ap₂ orderℕ (let e : m * 1 + 0 * 1 ≡ m = omega arith in e) (let e : n * 1 + 0 * 1 ≡ n = omega arith in e)

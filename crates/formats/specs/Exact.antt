@@ -5,13 +5,18 @@ use mathlib.Core.Logic.{_↔_}
 use mathlib.Core.Bool.{Bool, true, false, _&&_}
 use mathlib.Core.List.{List}
 use native.Mathlib.Nat.{mul-one}
+use native.Mathlib.Omega.{arith}
+use lib.Dec.{eqb}
+use lib.ListN.{length}
+use borrow.Author.Tests.{eqb-true}
 use Rattle.laws.specs.Tests.{and-both, and-intro}
-use Rattle.decimal.specs.Decimal.{isNumber, isInteger, against, Exact, exactOf, orderOf, signed}
+use Rattle.text.specs.Digits.{allDigits, natOf}
+use Rattle.decimal.specs.Decimal.{isNumber, isInteger, against, Exact, exactOf, orderℕ, orderOf, signed}
 use Rattle.decimal.specs.declared.Order.the-variants.{NoNumber}
-use Rattle.decimal.proofs.Exact.{compared, not-compared, sizeOf, integer-number, fraction-number, integer-exact, fraction-exact}
+use Rattle.decimal.proofs.Exact.{compared, not-compared, sizeOf, integer-number, fraction-number, integer-exact, fraction-exact, digits-number, digits-exact, whole-order}
 use Rattle.formats.specs.declared.Relation.{Relation}
 use Rattle.formats.specs.declared.Relation.the-variants.{AtLeast, AtMost, GreaterThan, LessThan, Exactly, NotExactly}
-use Rattle.formats.specs.Rules.{bound, wholeBetween, fractionUpTo, integerUpTo, meets, passes}
+use Rattle.formats.specs.Rules.{bound, wholeBetween, fractionUpTo, integerUpTo, hhmmIn, meets, passes}
 
 -- the value stands in this relation to the integer of this size, below zero or not
 abbrev pub stands : Relation → Exact → Bool → ℕ → Bool
@@ -73,3 +78,14 @@ between-exact low high v = (there, back)
         let h = bound-exact AtMost false high v ∙ and-intro (isNumber v) (stands AtMost (exactOf v) false high) (p .0) (p .3) in
         and-intro (passes (bound AtLeast false low) v) (passes (bound AtMost false high) v && isInteger v) l
         (and-intro (passes (bound AtMost false high) v) (isInteger v) h w)
+
+-- four digits: the number that they write stands so to the bound
+pub hhmm-exact : (o : Relation) (n : ℕ) (v : List ℕ) → passes (hhmmIn o n) v ≡ (eqb (length v) 4 && (allDigits v && meets o (orderℕ (natOf v) n)))
+hhmm-exact o n v = go (eqb (length v) 4) (allDigits v) refl refl
+  where
+    go : (x y : Bool) → eqb (length v) 4 ≡ x → allDigits v ≡ y → (x && (y && meets o (against v false n))) ≡ (x && (y && meets o (orderℕ (natOf v) n)))
+    go false y e a = refl
+    go true false e a = refl
+    go true true e a =
+        let h = digits-number v a (omega (arith, eqb-true (length v) 4 e)) in
+        ap (meets o) (compared v false n h ∙ ap (λ (x : Exact). orderOf x (signed false n 0)) (digits-exact v a) ∙ whole-order (natOf v) n)

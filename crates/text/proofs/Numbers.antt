@@ -1,7 +1,7 @@
 -- Laws of the numbers that digits write. Assumes nothing.
 use Prim.Native.Nat.{ℕ, suc, _+_, _-_, _*_, _^_, _≤_, _<_, min}
 use mathlib.Core.Path.{_≡_, refl, sym, ap, _∙_}
-use mathlib.Core.Bool.{Bool, true, false, cond, _&&_, and-false}
+use mathlib.Core.Bool.{Bool, true, false, cond, _&&_, and-false, false≢true}
 use mathlib.Core.List.{List, [], _∷_, _++_}
 use native.Mathlib.Omega.{arith}
 use native.Mathlib.Numerals.{add-one}
@@ -10,8 +10,9 @@ use native.Mathlib.Decide.{decLt}
 use lib.ListN.{length, getD, drop}
 use lib.Seq.{drop-cons}
 use lib.Dec.{ltb, leb}
-use borrow.Author.Tests.{lt-ltb, le-leb, lt-leb, leb-true}
+use borrow.Author.Tests.{lt-ltb, le-ltb, le-leb, lt-leb, leb-true, ne-eqb}
 use Rattle.laws.specs.Tests.{and-both}
+use Rattle.text.specs.Bytes.{begins, place, has}
 use Rattle.text.specs.Digits.{isDigit, allDigits, natFrom, natOf, digitsUpTo, plusWidth, numberUpTo}
 use Rattle.text.specs.declared.Found.the-variants.{Number, Nothing}
 
@@ -103,6 +104,23 @@ module _ (most : ℕ) (d : List ℕ) where
 -- a digit that takes the number over the largest one
 pub over : (most n : ℕ) (s : List ℕ) (i : ℕ) → i < length s → most < n * 10 + (getD s i 0 - 48) → most < natFrom n (drop i s)
 over most n s i h l = omega (arith, nat-ge (n * 10 + (getD s i 0 - 48)) (drop (i + 1) s), nat-next n s i h)
+
+-- nothing that begins with another byte than a digit stands among digits
+module _ (x : ℕ) (t : List ℕ) (no : isDigit x ≡ false) where
+  pub not-front : (s : List ℕ) → allDigits s ≡ true → begins (x ∷ t) s ≡ false
+  not-front [] a = refl
+  not-front (b ∷ s) a =
+      let d = and-both (isDigit b) (allDigits s) a .0 in
+      rw (ne-eqb b x (λ e. false≢true (sym no ∙ ap isDigit (sym e) ∙ d)))
+
+  pub place-none : (s : List ℕ) → allDigits s ≡ true → place (x ∷ t) s ≡ length s
+  place-none [] a = refl
+  place-none (b ∷ s) a =
+      let q = and-both (isDigit b) (allDigits s) a in
+      rw (not-front (b ∷ s) a) (ap suc (place-none s (q .1)))
+
+  pub not-in : (s : List ℕ) → allDigits s ≡ true → has (x ∷ t) s ≡ false
+  not-in s a = rw (place-none s a) (le-ltb (length s) (length s) (omega arith))
 
 -- what is found keeps its bound
 pub digits-bound : (most : ℕ) (d : List ℕ) (n : ℕ) → digitsUpTo most d ≡ Number n → n ≤ most
