@@ -1,4 +1,4 @@
--- The proleptic Gregorian calendar. Assumes nothing.
+-- The proleptic Gregorian calendar (docs/SEMANTICS.md, 'Day boundaries and summer time'). Assumes nothing.
 use Prim.Native.Nat.{ℕ, zero, suc, _+_, _-_, _*_, _%_}
 use mathlib.Core.List.{List, [], _∷_}
 use mathlib.Core.Bool.{Bool, cond, not, _&&_, _||_}
@@ -59,6 +59,6 @@ lastSunday y m = 31 - weekday y m 31
 abbrev pub momentOf : ℕ → ℕ → ℕ → ℕ → ℕ
 momentOf m d h i = ((m * 100 + d) * 100 + h) * 100 + i
 
--- summer time: from the last Sunday of March, 01:00 UTC, until before that of October
+-- summer time: it begins at 01:00 UTC on March's last Sunday, and is over at 01:00 UTC on October's
 unfoldable pub isMesz : ℕ → ℕ → ℕ → ℕ → ℕ → Bool
 isMesz y m d h i = leb (momentOf 3 (lastSunday y 3) 1 0) (momentOf m d h i) && ltb (momentOf m d h i) (momentOf 10 (lastSunday y 10) 1 0)

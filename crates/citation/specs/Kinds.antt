@@ -1,4 +1,4 @@
--- The kind of a citation (document 01, `ConditionKind::of`). Assumes nothing.
+-- The kind of a citation (docs/SEMANTICS.md, 'Kinds of citations'). Assumes nothing.
 use lib.ListN.{getD}
 use mathlib.Core.Path.{refl, ap}
 use mathlib.Mathlib.Logic.Function.Defs.{Injective, LeftInverse, LeftInverse·injective}

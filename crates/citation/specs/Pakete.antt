@@ -1,4 +1,4 @@
--- The bounds of a Paket citation (document 01, `Paket::parse`). Assumes nothing.
+-- The bounds of a Paket citation (docs/SEMANTICS.md, 'Package bounds'). Assumes nothing.
 use mathlib.Core.Path.{refl, ap}
 use mathlib.Mathlib.Logic.Function.Defs.{Injective}
 use Prim.Native.Nat.{ℕ, _+_}
@@ -41,7 +41,7 @@ abbrev pub lowOf : ℕ → Found → List ℕ → Result Paket
 lowOf name (Number low) h = cond (same (ascii "n") h) (ok (unbounded name low)) (highOf name low (numberUpTo largestBound h))
 lowOf name Nothing h = refuse NotAPaket
 
--- low, the first `..`, and high or `n`
+-- the bounds on both sides of the first `..`
 unfoldable pub rangeOf : ℕ → List ℕ → Result Paket
 rangeOf name r =
     let at = place (ascii "..") r in

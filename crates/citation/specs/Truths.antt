@@ -8,7 +8,7 @@ use mathlib.Core.Bool.{Bool, true, false}
 use Rattle.citation.specs.declared.Truth.{Truth}
 use Rattle.citation.specs.declared.Truth.the-variants.{False, Unknown, True, Neutral}
 
--- document 01's number of a truth, as an answer byte has it
+-- a truth's number, as an answer byte has it
 abbrev pub truthNumber : Truth → ℕ
 truthNumber False = 0
 truthNumber Unknown = 1

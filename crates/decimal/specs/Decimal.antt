@@ -1,4 +1,4 @@
--- Numbers written as text, their exact values and the digits that count (document 01, corners of `formatbedingung.rs`). Assumes nothing.
+-- Numbers written as text, their exact values and the digits that count (docs/SEMANTICS.md, 'Format conditions'). Assumes nothing.
 use Prim.Native.Nat.{ℕ, suc, _+_, _*_, _^_}
 use mathlib.Core.List.{List, [], _∷_, _++_}
 use mathlib.Core.Bool.{Bool, true, false, cond, _&&_}
@@ -30,7 +30,7 @@ integerOf s = take (place (ascii ".") (unsignedOf s)) (unsignedOf s)
 unfoldable pub fractionOf : List ℕ → List ℕ
 fractionOf s = drop (place (ascii ".") (unsignedOf s) + 1) (unsignedOf s)
 
--- a number: a sign or none, digits with at most one point, at least one digit
+-- a number: after a sign or none only digits, parted by a point or not, and not the point alone
 abbrev pub isNumber : List ℕ → Bool
 isNumber s = allDigits (integerOf s) && (allDigits (fractionOf s) && ltb 0 (length (integerOf s) + length (fractionOf s)))
 

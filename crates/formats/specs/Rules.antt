@@ -1,4 +1,4 @@
--- What a format condition can say of a value (document 01, corners of `formatbedingung.rs`). Assumes nothing.
+-- What a format condition can say of a value (docs/SEMANTICS.md, 'Format conditions'). Assumes nothing.
 use Prim.Native.Nat.{ℕ, _+_}
 use mathlib.Core.List.{List, [], _∷_}
 use mathlib.Core.Bool.{Bool, true, false, not, _&&_, _||_}
@@ -84,7 +84,7 @@ pub data Rule : Type 0 where
   lengthIs : ℕ → Rule
   -- at most so many characters
   lengthUpTo : ℕ → Rule
-  -- 15 bytes, the first 12 digits, and from a byte on this text
+  -- this text at a byte of a value that has 15 bytes and begins with 12 digits
   fieldIs : ℕ → List ℕ → Rule
   -- four digits in this relation to a number
   hhmmIn : Relation → ℕ → Rule

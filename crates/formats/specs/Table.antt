@@ -1,4 +1,4 @@
--- The 47 format conditions, each with its rule, found by their exact text (document 01, corners of `formatbedingung.rs`). Assumes nothing.
+-- The 47 format conditions, each with its rule, looked up by their texts byte for byte (docs/SEMANTICS.md, 'Format conditions'). Assumes nothing.
 use Prim.Native.Nat.{ℕ, _+_, _-_, _*_}
 use Prim.Native.String.{String}
 use mathlib.Core.Path.{_≡_, refl}

@@ -1,4 +1,4 @@
--- The moment that a value gives, and the day boundaries (document 01, UB1 to UB3). Assumes nothing.
+-- The moment that a value gives, and the day boundaries (docs/SEMANTICS.md, 'Day boundaries and summer time'). Assumes nothing.
 use Prim.Native.Nat.{ℕ, _+_, _-_}
 use mathlib.Core.List.{List, [], _∷_}
 use mathlib.Core.Bool.{Bool, false, cond, _&&_}
@@ -48,7 +48,7 @@ five (Number y) (Number m) (Number d) Nothing i = NoMoment
 five (Number y) (Number m) (Number d) (Number h) Nothing = NoMoment
 five (Number y) (Number m) (Number d) (Number h) (Number i) = existingOf y m d h i
 
--- the moment of a value: year, month, day, hour and minute from bytes 0, 4, 6, 8 and 10; further bytes are not looked at
+-- the moment of a value, whose year, month, day, hour and minute begin at the bytes 0, 4, 6, 8 and 10; what comes after them may be anything
 unfoldable pub momentOf : List ℕ → Moment
 momentOf v = five (yearOf v) (fieldOf 4 v) (fieldOf 6 v) (fieldOf 8 v) (fieldOf 10 v)
 

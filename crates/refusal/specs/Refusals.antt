@@ -7,7 +7,7 @@ use lib.ListN.{getD}
 use Rattle.refusal.specs.declared.Refusal.{Refusal}
 use Rattle.refusal.specs.declared.Refusal.the-variants.{Stray, Unterminated, EmptyCondition, MissingOperand, Parentheses, Empty, ChoiceOverNeutral, FailedAnswer, NoStatusWord, TooLong, NotUtf8, TooManyCitations, TooDeep, NoRoom, NotATree, WrongAnswers, NotAPaket}
 
--- document 01's number of a refusal
+-- a refusal's number
 abbrev pub numberOf : Refusal → ℕ
 numberOf Stray = 1
 numberOf Unterminated = 2

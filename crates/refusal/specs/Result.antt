@@ -6,7 +6,7 @@ use Prim.Native.Nat.{ℕ}
 use Rattle.refusal.specs.declared.Refusal.{Refusal}
 use Rattle.refusal.specs.Refusals.{numberOf, refusalAt, number-injective}
 
--- what a function answers: a value, or document 01's number of a refusal
+-- what a function answers: a value, or the number of a refusal
 pub data Result (A : Type 0) : Type 0 where
   ok : A → Result A
   refused : ℕ → Result A

@@ -5,13 +5,13 @@ ghost use Rattle.refusal.specs.Refusals.{numberOf};
 pub enum Refusal {
     // A character that is no citation, operator, parenthesis or white space.
     Stray,
-    // A `[` without its `]`.
+    // A citation that is never closed.
     Unterminated,
     // A citation of white space only.
     EmptyCondition,
-    // An operand is due, and neither a citation nor `(` follows.
+    // Something else stands, or nothing, where an operand has to stand.
     MissingOperand,
-    // A `)` is missing or left over.
+    // One `)` too few or too many.
     Parentheses,
     // No expression.
     Empty,
@@ -29,13 +29,13 @@ pub enum Refusal {
     TooManyCitations,
     // Too many parentheses are open.
     TooDeep,
-    // The lent buffer is shorter than the result.
+    // The result does not fit the caller's buffer.
     NoRoom,
     // The bytes are not a tree.
     NotATree,
     // The answers do not fit the citations.
     WrongAnswers,
-    // The text is not a Paket citation.
+    // The text names no Paket.
     NotAPaket,
 }
 

@@ -1,4 +1,4 @@
--- The status words, the code of each, and which of them a receiver may check (document 01, `Status::parse`). Assumes nothing.
+-- The status words, the code of each (docs/FORMAT.md, 'Texts'), and which of them a receiver may check. Assumes nothing.
 use mathlib.Core.Path.{refl}
 use mathlib.Mathlib.Logic.Function.Defs.{Injective, LeftInverse, LeftInverse·injective}
 use Prim.Native.Nat.{ℕ, _-_}
@@ -79,7 +79,7 @@ word-said-injective = said-injective Is (λ _. NoWord) wordSaid λ a. elim a [ I
 abbrev pub wordHeld : List ℕ → Word
 wordHeld w = record { bytes = w ++ replicate (4 - length w) 0; len = length w }
 
--- a receiver may check Muss, M and X
+-- whether a receiver may check the status: the two that oblige, and X
 abbrev pub isReceiverCheckable : StatusKind → Bool
 isReceiverCheckable Muss = true
 isReceiverCheckable Soll = false

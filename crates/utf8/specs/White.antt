@@ -1,4 +1,4 @@
--- White space (document 01: Unicode's). Assumes nothing.
+-- White space, as Unicode has it (docs/FORMAT.md, 'Texts'). Assumes nothing.
 use Prim.Native.Nat.{ℕ}
 use mathlib.Core.List.{List, [], _∷_}
 use mathlib.Core.Bool.{Bool, false, _||_}

@@ -220,7 +220,7 @@ pub fn count(s: &[u8]) -> usize
     scan(s).chars
 }
 
-// The white space of document 01.
+// White space, as Unicode has it.
 pub fn is_white(code: u32) -> bool
     ensures { λ r. ⌜ r ≡ isWhite code ⌝ }
 {
