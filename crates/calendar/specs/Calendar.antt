@@ -1,7 +1,8 @@
 -- The proleptic Gregorian calendar (docs/SEMANTICS.md, 'Day boundaries and summer time'). Assumes nothing.
 use Prim.Native.Nat.{ℕ, zero, suc, _+_, _-_, _*_, _%_}
+use mathlib.Core.Path.{_≡_, refl}
 use mathlib.Core.List.{List, [], _∷_}
-use mathlib.Core.Bool.{Bool, cond, not, _&&_, _||_}
+use mathlib.Core.Bool.{Bool, true, cond, not, _&&_, _||_}
 use lib.ListN.{getD}
 use lib.Dec.{ltb, leb, eqb}
 
@@ -12,6 +13,10 @@ eraStart = 1200
 -- every fourth year, but of the hundredth years every fourth only
 abbrev pub isLeap : ℕ → Bool
 isLeap y = eqb (y % 4) 0 && (not (eqb (y % 100) 0) || eqb (y % 400) 0)
+
+-- the year 0 is one of them
+pub year-0-leap : isLeap eraStart ≡ true
+year-0-leap = refl
 
 -- the days of a year
 abbrev pub yearDays : ℕ → ℕ

@@ -34,6 +34,10 @@ pub not-compared : (s : List ℕ) (below : Bool) (size : ℕ) → isNumber s ≡
 unfolding against
 not-compared s below size h = rw h
 
+-- 0 is one value, whatever its sign
+pub zero-signed : (k : ℕ) → signed true 0 k ≡ signed false 0 k
+zero-signed k = refl
+
 -- the order is one: turned round, and transitive
 pub turned : (x y : Exact) → orderOf y x ≡ flip (orderOf x y)
 turned x y = flip-order (x .plus * 10 ^ y .places + y .minus * 10 ^ x .places) (y .plus * 10 ^ x .places + x .minus * 10 ^ y .places)

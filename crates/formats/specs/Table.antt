@@ -140,14 +140,19 @@ rules-found = refl
 abbrev pub identifiers : List (List ℕ)
 identifiers = ascii "922" ∷ ascii "950" ∷ ascii "951" ∷ ascii "953" ∷ ascii "960" ∷ ascii "961" ∷ []
 
--- texts that are a condition's but for a zero, a sign, a blank or the digit
-abbrev pub inexact : List (List ℕ)
-inexact = ascii "0902" ∷ ascii "+902" ∷ ascii " 902" ∷ ascii "UB4" ∷ ascii "UB01" ∷ []
+-- texts that differ from a condition's by a zero, a sign, a blank or the digit
+abbrev pub nearMisses : List (List ℕ)
+nearMisses = ascii "0902" ∷ ascii "+902" ∷ ascii " 902" ∷ ascii "UB4" ∷ ascii "UB01" ∷ []
 
--- none of these has a rule, so they are Unregistered on every value
-pub no-rule : map (ruleOf rules) (identifiers ++ inexact) ≡ replicate 11 none
+-- none of these has a rule
+pub no-rule : map (ruleOf rules) (identifiers ++ nearMisses) ≡ replicate 11 none
 unfolding ruleOf
 no-rule = refl
+
+-- so they are Unregistered, whatever the value
+pub none-registered : (v : List ℕ) → map (λ t. verdict t v) (identifiers ++ nearMisses) ≡ replicate 11 Unregistered
+unfolding ruleOf verdict
+none-registered v = refl
 
 -- a number that stands for a text of three digits or of UB and a digit, 0 for any other; the code looks conditions up by it
 abbrev pub idOf3 : ℕ → ℕ → ℕ → ℕ

@@ -3,6 +3,7 @@ use Prim.Native.Nat.{ℕ, _+_, _-_, _≤_, _<_}
 use mathlib.Core.Path.{_≡_, refl, sym, ap, _∙_}
 use mathlib.Core.Bool.{Bool, true, false, cond}
 use mathlib.Core.List.{List, [], _∷_}
+use mathlib.Mathlib.Logic.Function.Defs.{Injective}
 use native.Mathlib.Omega.{arith}
 use native.Mathlib.Numerals.{add-one}
 use native.Mathlib.Decide.{decLt}
@@ -42,6 +43,10 @@ among-word (j ∷ ks) w k h = go (same (wordOf j) w) refl h (among-word ks w k)
 pub word-sound : (w : List ℕ) (k : StatusKind) → kindOfWord w ≡ ok k → w ≡ wordOf k
 unfolding kindOfWord
 word-sound w k h = among-word kinds w k h
+
+-- different kinds have different words
+pub word-injective : Injective wordOf
+word-injective j k e = let one : ok j ≡ ok k = sym (word-round j) ∙ ap kindOfWord e ∙ word-round k in cc
 
 -- what is no code
 pub kind-past : (n : ℕ) → 6 ≤ n → kindAt n ≡ K
