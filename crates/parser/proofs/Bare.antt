@@ -11,8 +11,8 @@ use Rattle.grammar.specs.Parse.{same, gather, Side, lead, chain, whole, led, gr
 use Rattle.grammar.specs.Rows.{opKind, many, node, rows, rowsOf, span, spans}
 use Rattle.lexer.specs.Tokens.{kindOf, kindsOf}
 use Rattle.parser.specs.Packed.{packed}
-use Rattle.parser.specs.Answer.{citesIn, rowsIn}
-use Rattle.parser.specs.Tokens.{tok, from}
+use Rattle.parser.specs.Answer.{citesIn, rowsIn, parsedKinds}
+use Rattle.parser.specs.Tokens.{tok}
 
 -- the same without texts
 
@@ -173,34 +173,32 @@ unfolding kindsOf
 toks-kinds [] = refl
 toks-kinds (t ∷ ts) = rw (tok-kind t, toks-kinds ts)
 
-from-kinds : (ts : List Tok) (kinds : List ℕ) → kindsOf ts ≡ kinds → from kinds 0 ≡ map bareTok ts
-unfolding from
-from-kinds ts kinds h = rw (← h) (toks-kinds ts)
-
 parse-bare : (ts : List Tok) → parse (map bareTok ts) ≡ map-ok bare (parse ts)
 unfolding parse bare bareLeft bareOpens
 parse-bare ts = read-bare ts start none top
 
-module _ (ts : List Tok) (kinds : List ℕ) (h : kindsOf ts ≡ kinds) where
-  same-parse : parse (from kinds 0) ≡ map-ok bare (parse ts)
-  same-parse = ap parse (from-kinds ts kinds h) ∙ parse-bare ts
+-- tokens parse as their kinds do, but for the texts that they cite
+parsed-bare : (ts : List Tok) → parsedKinds (kindsOf ts) ≡ map-ok bare (parse ts)
+unfolding parsedKinds
+parsed-bare ts = ap parse (toks-kinds ts) ∙ parse-bare ts
 
-  spans-same : (r : Result Expr) → map-ok span (map-ok bare r) ≡ map-ok span r
-  unfolding map-ok
-  spans-same (ok e) = ap ok (span-bare e)
-  spans-same (refused k) = refl
+spans-same : (r : Result Expr) → map-ok span (map-ok bare r) ≡ map-ok span r
+unfolding map-ok
+spans-same (ok e) = ap ok (span-bare e)
+spans-same (refused k) = refl
 
-  rows-same : (r : Result Expr) → rowsIn (map-ok bare r) ≡ rowsIn r
-  unfolding map-ok
-  rows-same (ok e) = ap packed (rows-bare 0 e)
-  rows-same (refused k) = refl
+rows-same : (r : Result Expr) → rowsIn (map-ok bare r) ≡ rowsIn r
+unfolding map-ok
+rows-same (ok e) = ap packed (rows-bare 0 e)
+rows-same (refused k) = refl
 
-  -- what tokens of these kinds say
-  pub said-by-kinds : map-ok span (parse (from kinds 0)) ≡ map-ok span (parse ts)
-  said-by-kinds = ap (map-ok span) same-parse ∙ spans-same (parse ts)
+-- how many rows there are depends on the kinds alone
+pub said-by-kinds : (ts : List Tok) → map-ok span (parsedKinds (kindsOf ts)) ≡ map-ok span (parse ts)
+said-by-kinds ts = ap (map-ok span) (parsed-bare ts) ∙ spans-same (parse ts)
 
-  pub rows-by-kinds : rowsIn (parse (from kinds 0)) ≡ rowsIn (parse ts)
-  rows-by-kinds = ap rowsIn same-parse ∙ rows-same (parse ts)
+-- and so do the rows
+pub rows-by-kinds : (ts : List Tok) → rowsIn (parsedKinds (kindsOf ts)) ≡ rowsIn (parse ts)
+rows-by-kinds ts = ap rowsIn (parsed-bare ts) ∙ rows-same (parse ts)
 
 -- as many citations as texts
 pub cites-of-kinds : (ts : List Tok) → citesIn (kindsOf ts) ≡ length (texts ts)

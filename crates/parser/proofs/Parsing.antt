@@ -1,30 +1,29 @@
 -- All tokens: what was read and placed is what parsing says. Assumes nothing.
-use mathlib.Core.Path.{_≡_, sym, ap, _∙_}
-use mathlib.Core.List.{List, [], _++_}
+use mathlib.Core.Path.{_≡_, refl, sym, ap, _∙_}
+use mathlib.Core.List.{List, _++_}
 use Prim.Native.Nat.{ℕ, _+_, _-_, _*_, _≤_, _<_}
 use native.Mathlib.Omega.{arith}
 use lib.ListN.{length, take, drop}
-use lib.Seq.{take-append-seam}
 use Rattle.refusal.specs.Result.{ok, refuse, map-ok}
 use Rattle.refusal.specs.declared.Refusal.{Refusal}
 use Rattle.refusal.specs.declared.Refusal.the-variants.{Parentheses}
 use Rattle.utf8.specs.Limits.{textLimit}
 use Rattle.grammar.specs.Expr.{Expr, none, _◂_}
 use Rattle.grammar.specs.Parse.{parse}
-use Rattle.grammar.specs.Rows.{rows, rowsOf, span, spans}
+use Rattle.grammar.specs.Rows.{rows, rowsOf, span, spans, rows-span}
 use Rattle.grammar.specs.Reading.{citationLimit}
 use Rattle.parser.specs.Packed.{packed}
-use Rattle.parser.specs.Answer.{citesIn, rowsIn, Answers, Holds}
+use Rattle.parser.specs.Answer.{citesIn, parsedSaid, parsedKinds, rowsOver}
 use Rattle.parser.specs.Tokens.{from}
 use Rattle.parser.specs.States.{Held, Ready, ChainSays, Stand, Placed}
 use Rattle.parser.specs.declared.Pos.{Pos}
 use Rattle.parser.specs.declared.Step.{Step}
 use Rattle.parser.specs.declared.Step.the-variants.{On, Off}
+use Rattle.parser.specs.declared.Parsed.{Parsed}
 use Rattle.parser.specs.declared.Parsed.the-variants.{Rows, Refused}
 use Rattle.parser.proofs.Steps.{parse-done, parse-left-over, parse-fails}
 use Rattle.parser.proofs.Ahead.{from-end, close-here}
-use Rattle.parser.proofs.Orders.{many-one, rows-one, span-one}
-use Rattle.parser.proofs.Bare.{said-by-kinds, rows-by-kinds}
+use Rattle.parser.proofs.Orders.{many-one, rows-one, span-one, packed-length}
 
 -- where reading starts
 abbrev pub origin : Pos
@@ -33,31 +32,34 @@ origin = record { at = 0; rows = 0; cites = 0; kind = 0; kids = 0 }
 pub ready-first : (s : List ℕ) (room : ℕ) → length s ≤ textLimit → citesIn s ≤ citationLimit → 2 * citesIn s ≤ room + 1 → Ready s room origin
 ready-first s room a b c = record { short = a; inside = omega arith; few = omega arith; space = omega arith }
 
-module _ (s : List ℕ) where
-  refuses : (l : List ℕ) (why : Refusal) → parse (from s 0) ≡ refuse why → Answers s (Refused why) × Holds s l
-  unfolding map-ok
-  refuses l why h = (
-    (λ ts k. sym (ap (map-ok span) h) ∙ said-by-kinds ts s k),
-    (λ ts k. let e : rowsIn (parse ts) ≡ [] = sym (rows-by-kinds ts s k) ∙ ap rowsIn h in rw e),
-  )
+-- what `parse_tokens` says of kinds: its answer, and the rows before and after
+abbrev Says : (s : List ℕ) → Parsed → (l new : List ℕ) → Type 0
+Says s r l new = (parsedSaid r ≡ map-ok span (parsedKinds s)) × (new ≡ rowsOver (parsedKinds s) l)
 
-  says : (l : List ℕ) (n : ℕ) (e : Expr) → parse (from s 0) ≡ ok e → n ≡ span e → take (length (packed (rows 0 e))) l ≡ packed (rows 0 e)
-      → Answers s (Rows n) × Holds s l
+module _ (s : List ℕ) where
+  parsed-is : parsedKinds s ≡ parse (from s 0)
+  unfolding parsedKinds from
+  parsed-is = refl
+
+  refuses : (l : List ℕ) (why : Refusal) → parse (from s 0) ≡ refuse why → Says s (Refused why) l l
   unfolding map-ok
-  says l n e h z w = (
-    (λ ts k. ap ok z ∙ sym (ap (map-ok span) h) ∙ said-by-kinds ts s k),
-    (λ ts k. let f : rowsIn (parse ts) ≡ packed (rows 0 e) = sym (rows-by-kinds ts s k) ∙ ap rowsIn h in rw f w),
-  )
+  refuses l why h = rw (parsed-is, h) (refl, refl)
+
+  says : (l new : List ℕ) (n : ℕ) (e : Expr) → parse (from s 0) ≡ ok e → n ≡ span e → new ≡ packed (rows 0 e) ++ drop n l → Says s (Rows n) l new
+  unfolding map-ok
+  says l new n e h z w =
+      let size : n ≡ length (packed (rows 0 e)) = z ∙ sym (packed-length (rows 0 e) ∙ rows-span 0 e) in
+      rw (parsed-is, h) (ap ok z, w ∙ ap (λ (x : ℕ). packed (rows 0 e) ++ drop x l) size)
 
   module _ (old work : List ℕ) (r : Step) where
-    pub refused-chain : (l : List ℕ) (why : Refusal) → r ≡ Off why → ChainSays s origin old work r → Answers s (Refused why) × Holds s l
+    pub refused-chain : (l : List ℕ) (why : Refusal) → r ≡ Off why → ChainSays s origin old work r → Says s (Refused why) l l
     refused-chain l why e h = let g : ChainSays s origin old work (Off why) = rw e at h in refuses l why (parse-fails g)
 
     module _ (q : Pos) (e : r ≡ On q) (h : ChainSays s origin old work r) where
       abbrev got : ChainSays s origin old work (On q)
       got = rw e at h
 
-      pub refused-rest : (l : List ℕ) → q .at < length s → Answers s (Refused Parentheses) × Holds s l
+      pub refused-rest : (l : List ℕ) → q .at < length s → Says s (Refused Parentheses) l l
       refused-rest l i = refuses l Parentheses (parse-left-over (rw (close-here s (q .at) i (got .1 .stops)) at (got .1)))
 
       held : Held 0 0 work (q .rows) (q .cites) (got .0 ◂ none)
@@ -89,11 +91,10 @@ module _ (s : List ℕ) where
       rows-fit room c k = omega (arith, rows-high c .0)
 
       pub read-all : (l new : List ℕ) → citesIn s ≤ citationLimit → length s ≤ q .at → Placed work (q .rows) 1 (q .rows) l new
-          → Answers s (Rows (q .rows)) × Holds s new
+          → Says s (Rows (q .rows)) l new
       read-all l new c i p =
           let z : q .rows - spans (got .0 ◂ none) ≡ 0 = omega (arith, high, span-one (got .0)) in
           let w : new ≡ packed (rows 0 (got .0)) ++ drop (q .rows) l =
           p .is (stand c) ∙ ap (λ x. take x l ++ (packed (rowsOf 0 (got .0 ◂ none)) ++ drop (q .rows) l)) z
           ∙ ap (λ x. packed x ++ drop (q .rows) l) (rows-one 0 (got .0)) in
-          says new (q .rows) (got .0) (parse-done (rw (from-end s (q .at) i) at (got .1))) high
-          (ap (take (length (packed (rows 0 (got .0))))) w ∙ take-append-seam (packed (rows 0 (got .0))) (drop (q .rows) l))
+          says l new (q .rows) (got .0) (parse-done (rw (from-end s (q .at) i) at (got .1))) high w

@@ -1,17 +1,15 @@
 -- What `parse_tokens` answers and writes. Assumes nothing.
-use mathlib.Core.Path.{_≡_}
 use mathlib.Core.Bool.{cond}
-use mathlib.Core.List.{List, [], _∷_}
+use mathlib.Core.List.{List, [], _∷_, _++_, map}
 use Prim.Native.Nat.{ℕ, suc}
 use lib.Dec.{eqb}
-use lib.ListN.{length, take}
-use Rattle.refusal.specs.Result.{Result, ok, refused, refuse, map-ok}
+use lib.ListN.{length, drop}
+use Rattle.refusal.specs.Result.{Result, ok, refused, refuse}
 use Rattle.grammar.specs.Expr.{Expr}
-use Rattle.grammar.specs.Lex.{Tok}
 use Rattle.grammar.specs.Parse.{parse}
-use Rattle.grammar.specs.Rows.{citeKind, rows, span}
-use Rattle.lexer.specs.Tokens.{kindsOf}
+use Rattle.grammar.specs.Rows.{citeKind, rows}
 use Rattle.parser.specs.Packed.{packed}
+use Rattle.parser.specs.Tokens.{tok}
 use Rattle.parser.specs.declared.Parsed.{Parsed}
 use Rattle.parser.specs.declared.Parsed.the-variants.{Rows, Refused}
 
@@ -30,10 +28,10 @@ abbrev pub rowsIn : Result Expr → List ℕ
 rowsIn (ok e) = packed (rows 0 e)
 rowsIn (refused k) = []
 
--- r says what parsing says of all tokens of these kinds, whatever they cite
-abbrev pub Answers : List ℕ → Parsed → Type 0
-Answers kinds r = (ts : List Tok) → kindsOf ts ≡ kinds → parsedSaid r ≡ map-ok span (parse ts)
+-- what kinds parse to, their citations having empty texts
+unfoldable pub parsedKinds : List ℕ → Result Expr
+parsedKinds kinds = parse (map tok kinds)
 
--- in front stand the rows of what all tokens of these kinds parse to, whatever they cite
-abbrev pub Holds : List ℕ → List ℕ → Type 0
-Holds kinds l = (ts : List Tok) → kindsOf ts ≡ kinds → take (length (rowsIn (parse ts))) l ≡ rowsIn (parse ts)
+-- the rows of what was parsed, and behind them what stood there; on a refusal all that stood there
+abbrev pub rowsOver : Result Expr → List ℕ → List ℕ
+rowsOver r old = rowsIn r ++ drop (length (rowsIn r)) old

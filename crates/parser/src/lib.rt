@@ -9,10 +9,12 @@ ghost use Prim.Native.Nat.{_+_, _*_, _-_, _/_, _%_, _≤_, _<_};
 ghost use mathlib.Core.Bool.{cond};
 ghost use lib.Dec.{eqb};
 ghost use lib.ListN.{length};
+ghost use Rattle.refusal.specs.Result.{map-ok};
 ghost use Rattle.utf8.specs.Limits.{textLimit};
+ghost use Rattle.grammar.specs.Rows.{span};
 ghost use Rattle.grammar.specs.Reading.{citationLimit};
 ghost use Rattle.parser.specs.Packed.{pack};
-ghost use Rattle.parser.specs.Answer.{citesIn, Answers, Holds};
+ghost use Rattle.parser.specs.Answer.{citesIn, parsedSaid, parsedKinds, rowsOver};
 ghost use Rattle.parser.specs.Tokens.{from, opAhead, operandAhead};
 ghost use Rattle.parser.specs.States.{Ready, AtomSays, JuxSays, ChainSays, noded, past, ledPos, grownPos, nodedRows, grownRows, Stand, Placed};
 
@@ -315,11 +317,11 @@ fn place(work: &[u64], top: usize, count: usize, rows: &mut [u64], end: usize)
     place(work, top - size, count - 1, rows, end - size);
 }
 
-// The rows of the expression that all tokens together are; `work` is scratch.
+// The rows of the expression that all tokens together are; what is no kind of a token is read as a closing parenthesis. `work` is scratch: it keeps its length, and what it holds afterwards is free.
 pub fn parse_tokens(toks: &[u8], work: &mut [u64], rows: &mut [u64]) -> Parsed
     requires { ⌜ (length (now toks) ≤ textLimit) × (citesIn (now toks) ≤ citationLimit) × (2 * citesIn (now toks) ≤ length (now work) + 1) × (2 * citesIn (now toks) ≤ length (now rows) + 1) ⌝ }
-    ensures { λ r. ⌜ Answers (now (toks .entry)) r ⌝ }
-    ensures { λ _. ⌜ Holds (now (toks .entry)) (now (rows .exit)) ⌝ }
+    ensures { λ r. ⌜ parsedSaid r ≡ map-ok span (parsedKinds (now (toks .entry))) ⌝ }
+    ensures { λ _. ⌜ now (rows .exit) ≡ rowsOver (parsedKinds (now (toks .entry))) (now (rows .entry)) ⌝ }
 {
     match parse_chain(
         toks,

@@ -1,10 +1,11 @@
 -- From the answers of the lexer and the parser to the tree of a text. Assumes nothing.
 use mathlib.Core.Path.{_≡_, refl, sym, ap, _∙_, subst}
 use mathlib.Core.Bool.{true}
-use mathlib.Core.List.{List, [], _∷_}
+use mathlib.Core.List.{List, [], _∷_, _++_}
 use Prim.Native.Nat.{ℕ, suc, _+_, _*_, _≤_}
 use native.Mathlib.Omega.{arith}
-use lib.ListN.{length, take, length-take}
+use lib.ListN.{length, take, drop, length-take}
+use lib.Seq.{take-at}
 use Rattle.refusal.specs.Result.{Result, ok, refused, refuse, refused≢ok, map-ok, then}
 use Rattle.refusal.specs.declared.Refusal.{Refusal}
 use Rattle.utf8.specs.Utf8.{isUtf8, decode}
@@ -23,10 +24,10 @@ use Rattle.lexer.proofs.Turns as turns
 use Rattle.lexer.proofs.Told.{Told, told, told-refused}
 use Rattle.lexer.proofs.Limits.{tokenized-parsed}
 use Rattle.parser.specs.Packed.{packed}
-use Rattle.parser.specs.Answer.{citesIn, parsedSaid, rowsIn, Answers, Holds}
+use Rattle.parser.specs.Answer.{citesIn, parsedSaid, rowsIn, parsedKinds, rowsOver}
 use Rattle.parser.specs.declared.Parsed.{Parsed}
 use Rattle.parser.specs.declared.Parsed.the-variants as parsed
-use Rattle.parser.proofs.Bare.{cites-of-kinds}
+use Rattle.parser.proofs.Bare.{said-by-kinds, rows-by-kinds, cites-of-kinds}
 use Rattle.parser.proofs.Orders.{packed-length}
 use Rattle.reader.specs.Made.{Room, Stands}
 
@@ -60,9 +61,6 @@ module _ (s kinds places : List ℕ) (k p w r : ℕ) (room : Room (length s) k p
       told s kinds places n m b (λ x y. let z = room .cites m x (omega arith) in omega arith) q
 
   module _ (t : Told s kinds places n m b) where
-    kinds-are : kindsOf (t .toks) ≡ take n kinds
-    kinds-are = sym (t .shown)
-
     cites-are : citesIn (take n kinds) ≡ m
     cites-are = ap citesIn (t .shown) ∙ cites-of-kinds (t .toks) ∙ sym (t .cites)
 
@@ -80,10 +78,16 @@ module _ (s kinds places : List ℕ) (k p w r : ℕ) (room : Room (length s) k p
     unfolding then
     read-by = sym (tokenized-parsed (decode s)) ∙ ap (λ x. then x parse) (t .is)
 
+    said-of : map-ok span (parsedKinds (take n kinds)) ≡ map-ok span (parse (t .toks))
+    said-of = ap (λ x. map-ok span (parsedKinds x)) (t .shown) ∙ said-by-kinds (t .toks)
+
+    rows-of : rowsIn (parsedKinds (take n kinds)) ≡ rowsIn (parse (t .toks))
+    rows-of = ap (λ x. rowsIn (parsedKinds x)) (t .shown) ∙ rows-by-kinds (t .toks)
+
     -- the tokens are no expression
-    pub not-parsed : (o : Parsed) (why : Refusal) → o ≡ parsed.Refused why → Answers (take n kinds) o → expression (decode s) ≡ refuse why
+    pub not-parsed : (o : Parsed) (why : Refusal) → o ≡ parsed.Refused why → parsedSaid o ≡ map-ok span (parsedKinds (take n kinds)) → expression (decode s) ≡ refuse why
     unfolding map-ok
-    not-parsed o why e a = read-by ∙ go (parse (t .toks)) (sym (ap parsedSaid e) ∙ a (t .toks) kinds-are)
+    not-parsed o why e a = read-by ∙ go (parse (t .toks)) (sym (ap parsedSaid e) ∙ a ∙ said-of)
       where
         go : (x : Result Expr) → refuse why ≡ map-ok span x → x ≡ refuse why
         go (ok x) h = absurd (refused≢ok h)
@@ -100,15 +104,16 @@ module _ (s kinds places : List ℕ) (k p w r : ℕ) (room : Room (length s) k p
     was (refused j) nodes h = absurd (refused≢ok (sym h))
 
     -- the tree of the text
-    pub stands : isUtf8 s ≡ true → (held : List ℕ) (nodes : ℕ) (o : Parsed) → o ≡ parsed.Rows nodes → Answers (take n kinds) o → Holds (take n kinds) held → Stands s places held nodes m b
-    stands u held nodes o e a h =
-        let g = was (parse (t .toks)) nodes (sym (ap parsedSaid e) ∙ a (t .toks) kinds-are) in
+    pub stands : isUtf8 s ≡ true → (old held : List ℕ) (nodes : ℕ) (o : Parsed) → o ≡ parsed.Rows nodes → parsedSaid o ≡ map-ok span (parsedKinds (take n kinds))
+        → held ≡ rowsOver (parsedKinds (take n kinds)) old → Stands s places held nodes m b
+    stands u old held nodes o e a h =
+        let g = was (parse (t .toks)) nodes (sym (ap parsedSaid e) ∙ a ∙ said-of) in
         let x = g .tree in
         let is : expression (decode s) ≡ ok x = read-by ∙ g .is in
         let c : citations x ≡ texts (t .toks) = parse-cites (t .toks) x (g .is) in
         let size : length (packed (rows 0 x)) ≡ nodes = packed-length (rows 0 x) ∙ rows-span 0 x ∙ sym (g .many) in
         let rowed : take nodes held ≡ packed (rows 0 x) =
-        ap (λ j. take j held) (sym size) ∙ subst (λ y. take (length (rowsIn y)) held ≡ rowsIn y) (g .is) (h (t .toks) kinds-are) in
+        ap (take nodes) (h ∙ ap (λ l. l ++ drop (length l) old) (rows-of ∙ ap rowsIn (g .is))) ∙ take-at (packed (rows 0 x)) _ nodes size in
         let z = room .cites m (t .most) within in
         record {
           tree = x;

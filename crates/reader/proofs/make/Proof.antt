@@ -67,7 +67,7 @@ same-length-10 : tie.Need-same-length-10
 same-length-10 c = search needs
 
 returns-3 : tie.Need-returns-3
-returns-3 c = let s = c .before .before .before .before .before .before .before .before .before .before .before .before .before .before .before .before .before .before .before .before .before .before .before .before .before .before .args .text .now in let room = c .before .before .before .before .before .before .before .before .before .before .before .before .before .before .before .before .before .before .before .before .before .before .before .before .before .before .pre .2 in let ks = c .before .before .before .before .before .before .before .before .before .before .before .before .before .before .before .before .before .before .lex .last .1 .0 in let ps = c .before .before .before .before .before .before .before .before .before .before .before .before .before .before .before .before .before .before .lex .last .1 .1 .0 in let kept = c .before .before .before .before .before .before .before .before .before .before .before .before .before .before .before .before .before .before .lex .kept in let n = c .before .before .before .before .before .before .before .before .before .before .before .before .tokens .given .0 .0 in let m = c .before .before .before .before .before .before .before .before .before .before .before .before .tokens .given .0 .1 .0 in let b = c .before .before .before .before .before .before .before .before .before .before .before .before .tokens .given .0 .1 .1 .0 in let t = told-counts s ks ps _ _ _ _ room (omega (arith, kept .1 .0)) (omega (arith, kept .1 .1 .0)) n m b _ (c .before .before .before .before .before .before .before .before .before .before .before .before .tokens .given .1) (c .before .before .before .before .before .before .before .before .before .before .before .before .before .before .before .before .before .before .lex .ensures) in stands s ks ps _ _ _ _ room (omega (arith, kept .1 .0)) (omega (arith, kept .1 .1 .0)) n m b t (c .before .before .before .before .before .before .before .before .before .before .before .before .before .before .before .before .before .before .before .before .before .before .before .before .before .before .pre .1) _ (c .before .nodes .given .0 .0) _ (c .before .nodes .given .1) (c .before .before .before .before .before .before .before .parse-tokens .ensures .0) (c .before .before .before .before .before .before .before .parse-tokens .ensures .1)
+returns-3 c = let s = c .before .before .before .before .before .before .before .before .before .before .before .before .before .before .before .before .before .before .before .before .before .before .before .before .before .before .args .text .now in let room = c .before .before .before .before .before .before .before .before .before .before .before .before .before .before .before .before .before .before .before .before .before .before .before .before .before .before .pre .2 in let ks = c .before .before .before .before .before .before .before .before .before .before .before .before .before .before .before .before .before .before .lex .last .1 .0 in let ps = c .before .before .before .before .before .before .before .before .before .before .before .before .before .before .before .before .before .before .lex .last .1 .1 .0 in let kept = c .before .before .before .before .before .before .before .before .before .before .before .before .before .before .before .before .before .before .lex .kept in let n = c .before .before .before .before .before .before .before .before .before .before .before .before .tokens .given .0 .0 in let m = c .before .before .before .before .before .before .before .before .before .before .before .before .tokens .given .0 .1 .0 in let b = c .before .before .before .before .before .before .before .before .before .before .before .before .tokens .given .0 .1 .1 .0 in let t = told-counts s ks ps _ _ _ _ room (omega (arith, kept .1 .0)) (omega (arith, kept .1 .1 .0)) n m b _ (c .before .before .before .before .before .before .before .before .before .before .before .before .tokens .given .1) (c .before .before .before .before .before .before .before .before .before .before .before .before .before .before .before .before .before .before .lex .ensures) in stands s ks ps _ _ _ _ room (omega (arith, kept .1 .0)) (omega (arith, kept .1 .1 .0)) n m b t (c .before .before .before .before .before .before .before .before .before .before .before .before .before .before .before .before .before .before .before .before .before .before .before .before .before .before .pre .1) _ _ (c .before .nodes .given .0 .0) _ (c .before .nodes .given .1) (c .before .before .before .before .before .before .before .parse-tokens .ensures .0) (c .before .before .before .before .before .before .before .parse-tokens .ensures .1)
 
 pub make-spec : {M : Type 1} → statement M
 make-spec =
