@@ -5,16 +5,17 @@ use mathlib.Core.Bool.{Bool, true, false, cond}
 use mathlib.Core.List.{List, [], _∷_, _++_, append-assoc, append-nil}
 use native.Mathlib.Omega.{arith}
 use lib.Dec.{eqb}
-use lib.ListN.{length, take, drop, set, length-append}
+use lib.ListN.{length, take, drop, set}
 use lib.Seq.{append-snoc}
 use borrow.Author.Tests.{eq-eqb, ne-eqb, eqb-true, eqb-false}
 use Rattle.utf8.specs.Utf8.{isUtf8, decode, encode, encodeChar}
 use Rattle.utf8.specs.White.{isWhite}
 use Rattle.grammar.specs.Lex.{blankChar}
 use Rattle.grammar.specs.Status.{ended, wordsFrom, words, spaced, joined}
+use Rattle.fields.specs.Appended.{Appended}
+use Rattle.fields.proofs.Appends as appends
 use Rattle.lexer.specs.Runs.{leading, trailing, runEnd, gap}
 use Rattle.lexer.proofs.Split.{encode-append, Passed, passed, some-left, none-left}
-use Rattle.lexer.proofs.Copies.{grown}
 use Rattle.lexer.proofs.Runs.{lead-trail, trail-stop, run-starts}
 
 pub words-none : words [] ≡ []
@@ -100,15 +101,14 @@ pub gap-some : (n : ℕ) → (n ≡ 0 → ⊥) → length (gap n) ≡ 1
 gap-some n h = rw (ne-eqb n 0 h)
 
 -- what `add_gap` writes
-pub first-added : (n : ℕ) (out : List ℕ) → n ≡ 0 → (0 ≡ n + length (gap n)) × (take 0 out ≡ take n out ++ gap n)
-first-added n out z = (omega (arith, z, gap-none n z), rw z)
+pub first-added : (n : ℕ) (out : List ℕ) → n ≡ 0 → Appended (gap n) n out out 0
+first-added n out z = rw z (appends.nothing 0 out)
 
-pub next-added : (n : ℕ) (out : List ℕ) → (n ≡ 0 → ⊥) → n < length out → (n + 1 ≡ n + length (gap n)) × (take (n + 1) (set out n blankChar) ≡ take n out ++ gap n)
-next-added n out z l =
-    (omega (arith, gap-some n z), grown out n blankChar l ∙ ap (λ (x : Bool). take n out ++ cond x [] (blankChar ∷ [])) (sym (ne-eqb n 0 z)))
+pub next-added : (n : ℕ) (out : List ℕ) → (n ≡ 0 → ⊥) → n < length out → Appended (gap n) n out (set out n blankChar) (n + 1)
+next-added n out z l = appends.same (ap (λ (x : Bool). cond x [] (blankChar ∷ [])) (sym (ne-eqb n 0 z))) (appends.byte out n blankChar l)
 
 -- the words from `from` up to `at` have been joined; at `at` a word begins, or the text is at its end
-pub record Joining (s : List ℕ) (from : ℕ) (out : List ℕ) (at n : ℕ) : Type 0 where
+pub record Joining (s : List ℕ) (from : ℕ) (old out : List ℕ) (at n : ℕ) : Type 0 where
   pub done : List (List ℕ)
   pub later : from ≤ at
   pub room : at ≤ length s
@@ -117,11 +117,13 @@ pub record Joining (s : List ℕ) (from : ℕ) (out : List ℕ) (at n : ℕ) : T
   pub less : from + n ≤ at
   pub apart : (n ≡ 0 → ⊥) → at < length s → from + n < at
   pub none : n ≡ 0 → done ≡ []
-  pub size : n ≡ length (encode (joined done))
-  pub written : take n out ≡ encode (joined done)
+  pub written : Appended (encode (joined done)) 0 old out n
   pub goes : words (decode (drop from s)) ≡ done ++ words (decode (drop at s))
 
-pub joining-start : (s out : List ℕ) (from at : ℕ) → from ≤ length s → isUtf8 (drop from s) ≡ true → at ≡ runEnd true s from → Joining s from out at 0
+joined-size : {text : List ℕ} {q : ℕ} {old new : List ℕ} → Appended text 0 old new q → q ≡ length text
+joined-size h = omega (arith, h .ends)
+
+pub joining-start : (s out : List ℕ) (from at : ℕ) → from ≤ length s → isUtf8 (drop from s) ≡ true → at ≡ runEnd true s from → Joining s from out out at 0
 joining-start s out from at h u e =
     let p = run-passed true s from h u in
     let left : decode (drop at s) ≡ trailing true (decode (drop from s)) = ap (λ (n : ℕ). decode (drop n s)) e ∙ p .goes in
@@ -134,13 +136,12 @@ joining-start s out from at h u e =
       less = omega (arith, e);
       apart = λ k _. absurd (k refl);
       none = λ _. refl;
-      size = sym (ap (λ (x : List ℕ). length (encode x)) joined-none);
-      written = sym (ap encode joined-none);
+      written = appends.same (sym (ap encode joined-none)) (appends.nothing 0 out);
       goes = words-white (decode (drop from s)) ∙ ap words (sym left);
     }
 
 -- one word more, which ends at `end`
-module _ {s out : List ℕ} {from at n : ℕ} (h : Joining s from out at n) (l : at < length s) (end : ℕ) (e : end ≡ runEnd false s at) where
+module _ {s old out : List ℕ} {from at n : ℕ} (h : Joining s from old out at n) (l : at < length s) (end : ℕ) (e : end ≡ runEnd false s at) where
   abbrev word : List ℕ
   word = leading false (decode (drop at s))
 
@@ -177,8 +178,11 @@ module _ {s out : List ℕ} {from at n : ℕ} (h : Joining s from out at n) (l :
   words-on = word-split (decode (drop at s)) ∙ ap (λ (x : List (List ℕ)). x ++ words rest) word-ended
 
   -- the next begins at q
-  module _ (q : ℕ) (f : q ≡ runEnd true s end) (to : ℕ) (spaced-out out′ : List ℕ) (g : to ≡ n + length (gap n)) (v : take to spaced-out ≡ take n out ++ gap n)
-      (w : take (to + (end - at)) out′ ≡ take to spaced-out ++ take (end - at) (drop at s)) where
+  module _ (q : ℕ) (f : q ≡ runEnd true s end) (to : ℕ) (spaced-out out′ : List ℕ) (v : Appended (gap n) n out spaced-out to)
+      (w : Appended (take (end - at) (drop at s)) to spaced-out out′ (to + (end - at))) where
+    abbrev g : to ≡ n + length (gap n)
+    g = v .ends
+
     next : Passed s end (leading true (decode (drop end s))) (trailing true (decode (drop end s)))
     next = run-passed true s end word-room word-well
 
@@ -193,9 +197,9 @@ module _ {s out : List ℕ} {from at n : ℕ} (h : Joining s from out at n) (l :
     bytes-on = ap (λ (k : ℕ). take k (drop at s)) word-size ∙ run-passed false s at (h .room) (h .well) .bytes
 
     all : (encode (joined (h .done)) ++ gap n) ++ encode word ≡ encode (joined (h .done ++ (word ∷ [])))
-    all = sym (join-more n (h .done) word (h .size) (h .none))
+    all = sym (join-more n (h .done) word (joined-size (h .written)) (h .none))
 
-    pub joining-on : Joining s from out′ q (to + (end - at))
+    pub joining-on : Joining s from old out′ q (to + (end - at))
     joining-on = record {
       done = h .done ++ (word ∷ []);
       later = omega (arith, h .later, word-later, f);
@@ -205,9 +209,7 @@ module _ {s out : List ℕ} {from at n : ℕ} (h : Joining s from out at n) (l :
       less = omega (arith, word-fits, g, f);
       apart = λ _ k. omega (arith, word-fits, g, next-later k);
       none = λ z. absurd (omega (arith, g, z, word-later));
-      size =
-          omega (arith, g, h .size, word-size, ap length all, length-append (encode (joined (h .done)) ++ gap n) (encode word), length-append (encode (joined (h .done))) (gap n));
-      written = w ∙ ap (λ (x : List ℕ). x ++ take (end - at) (drop at s)) v ∙ ap (λ (x : List ℕ). (x ++ gap n) ++ take (end - at) (drop at s)) (h .written) ∙ ap (λ (x : List ℕ). (encode (joined (h .done)) ++ gap n) ++ x) bytes-on ∙ all;
+      written = appends.same (ap (λ (x : List ℕ). (encode (joined (h .done)) ++ gap n) ++ x) bytes-on ∙ all) (appends.both (appends.both (h .written) v) w);
       goes =
           h .goes
           ∙ ap (λ (x : List (List ℕ)). h .done ++ x) (words-on ∙ ap (λ (x : List (List ℕ)). word ∷ x) (ap words (sym word-left) ∙ words-white (decode (drop end s)) ∙ ap words (sym next-left)))
@@ -215,9 +217,11 @@ module _ {s out : List ℕ} {from at n : ℕ} (h : Joining s from out at n) (l :
     }
 
 -- at the end of the text
-pub joining-end : {s out : List ℕ} {from at n : ℕ} → Joining s from out at n → length s ≤ at
-    → (n ≡ length (encode (joined (words (decode (drop from s)))))) × (take n out ≡ encode (joined (words (decode (drop from s)))))
-joining-end {s} {out} {from} {at} {n} h l =
+pub joining-end : {s old out : List ℕ} {from at n : ℕ} → Joining s from old out at n → length s ≤ at
+    → (n ≡ length (encode (joined (words (decode (drop from s)))))) × (out ≡ encode (joined (words (decode (drop from s)))) ++ drop n old)
+joining-end {s} {old} {out} {from} {at} {n} h l =
     let g : h .done ≡ words (decode (drop from s)) =
     sym (h .goes ∙ ap (λ (x : List ℕ). h .done ++ words x) (none-left s at l) ∙ ap (λ (x : List (List ℕ)). h .done ++ x) words-none ∙ append-nil (h .done)) in
-    (h .size ∙ ap (λ (x : List (List ℕ)). length (encode (joined x))) g, h .written ∙ ap (λ (x : List (List ℕ)). encode (joined x)) g)
+    let w = appends.same (ap (λ (x : List (List ℕ)). encode (joined x)) g) (h .written) in
+    let size = joined-size w in
+    (size, appends.whole w ∙ ap (λ (x : ℕ). encode (joined (words (decode (drop from s)))) ++ drop x old) (sym size))

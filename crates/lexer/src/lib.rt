@@ -1,5 +1,7 @@
 // From a text in UTF-8 to tokens: a byte a token, the place of each citation's text, and the tests that come before parsing. For a status, its first word and its other words joined.
+use fields::put_text;
 use refusal::Refusal;
+use text::between;
 use utf8::Step;
 ghost use mathlib.Core.Path.{_≡_};
 ghost use mathlib.Core.Bool.{true, false};
@@ -12,6 +14,7 @@ ghost use Rattle.utf8.specs.Utf8.{isUtf8, decode, encode};
 ghost use Rattle.utf8.specs.Limits.{textLimit};
 ghost use Rattle.grammar.specs.Lex.{citeEnd, part, texts};
 ghost use Rattle.grammar.specs.Status.{words, joined};
+ghost use Rattle.fields.specs.Appended.{Appended};
 ghost use Rattle.lexer.specs.Runs.{runEnd, upTo, firstWord, gap};
 ghost use Rattle.lexer.specs.Tokens.{kindsOf, partNumber, deeper, counted, lexedSaid, tokenized, tokensOf, countsLimited, placed, startOf, sizeOf, cuts};
 ghost use Rattle.lexer.specs.State.{Closes, Begins, State, Turned, Ends};
@@ -418,24 +421,20 @@ pub fn first_word(text: &[u8]) -> Span
 // Copies `len` bytes of `text` from `from` on to `to`; most often one byte.
 fn copy_part(text: &[u8], from: usize, len: usize, out: &mut [u8], to: usize)
     requires { ⌜ (from + len ≤ length (now text)) × (to + len ≤ length (now out)) ⌝ }
-    ensures { λ _. ⌜ take (to + len) (now (out .exit)) ≡ take to (now (out .entry)) ++ take len (drop from (now (text .entry))) ⌝ }
+    ensures { λ _. ⌜ Appended (take len (drop from (now (text .entry)))) to (now (out .entry)) (now (out .exit)) (to + len) ⌝ }
 {
     if len == 1 {
         out[to] = text[from];
         return;
     }
-    let mut j = 0;
-    while j < len {
-        out[to + j] = text[from + j];
-        j += 1;
-    }
+    put_text(between(text, from, len), out, to);
 }
 
 // Copies the word that begins at `at` to `to`; the place after it in `text`.
 fn copy_word(text: &[u8], at: usize, out: &mut [u8], to: usize) -> usize
     requires { ⌜ to + (runEnd false (now text) at - at) ≤ length (now out) ⌝ }
     ensures { λ r. ⌜ r ≡ runEnd false (now (text .entry)) at ⌝ }
-    ensures { λ r. ⌜ take (to + (r - at)) (now (out .exit)) ≡ take to (now (out .entry)) ++ take (r - at) (drop at (now (text .entry))) ⌝ }
+    ensures { λ r. ⌜ Appended (take (r - at) (drop at (now (text .entry)))) to (now (out .entry)) (now (out .exit)) (to + (r - at)) ⌝ }
 {
     let mut i = at;
     while i < text.len() {
@@ -462,8 +461,7 @@ fn copy_word(text: &[u8], at: usize, out: &mut [u8], to: usize) -> usize
 // A space after the `n` bytes of joined words, if there are any; how many bytes are then written.
 fn add_gap(out: &mut [u8], n: usize) -> usize
     requires { ⌜ n + length (gap n) ≤ length (now out) ⌝ }
-    ensures { λ r. ⌜ r ≡ n + length (gap n) ⌝ }
-    ensures { λ r. ⌜ take r (now (out .exit)) ≡ take n (now (out .entry)) ++ gap n ⌝ }
+    ensures { λ r. ⌜ Appended (gap n) n (now (out .entry)) (now (out .exit)) r ⌝ }
 {
     if n == 0 {
         return 0;
@@ -476,7 +474,7 @@ fn add_gap(out: &mut [u8], n: usize) -> usize
 pub fn join_words(text: &[u8], from: usize, out: &mut [u8]) -> usize
     requires { ⌜ (from ≤ length (now text)) × (length (now text) ≤ from + length (now out)) × (isUtf8 (drop from (now text)) ≡ true) ⌝ }
     ensures { λ r. ⌜ r ≡ length (encode (joined (words (decode (drop from (now (text .entry))))))) ⌝ }
-    ensures { λ r. ⌜ take r (now (out .exit)) ≡ encode (joined (words (decode (drop from (now (text .entry)))))) ⌝ }
+    ensures { λ r. ⌜ now (out .exit) ≡ encode (joined (words (decode (drop from (now (text .entry)))))) ++ drop r (now (out .entry)) ⌝ }
 {
     let mut at = run_end(text, from, true);
     let mut n = 0;

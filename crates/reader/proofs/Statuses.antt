@@ -1,11 +1,12 @@
 -- The answers of reading a status and the lent bytes. Assumes nothing.
 use mathlib.Core.Path.{_≡_, refl, sym, ap, _∙_, subst}
 use mathlib.Core.Bool.{Bool, true, false}
-use mathlib.Core.List.{List}
+use mathlib.Core.List.{List, _++_}
 use Prim.Native.Nat.{ℕ, _-_, _≤_}
 use native.Mathlib.Omega.{arith}
 use lib.Dec.{leb}
 use lib.ListN.{length, take, drop, length-take}
+use lib.Seq.{take-at}
 use borrow.Author.Tests.{eq-eqb, ne-eqb}
 use Rattle.refusal.specs.Result.{Result, ok, refused, refuse, unless, map-ok, then}
 use Rattle.refusal.specs.declared.Refusal.{Refusal}
@@ -65,6 +66,10 @@ tree-written k (refused j) old = refl
 tree-says : (k : StatusKind) (x : Result Expr) (old new : List ℕ) (r : Result ℕ)
     → (r ≡ answerOf (treeOutcome x) (length old)) × (new ≡ writtenOf (treeOutcome x) old) → Says (map-ok (stated k) x) old new (map-ok (withTree k) r)
 tree-says k x old new r h = (ap (map-ok (withTree k)) (h .0) ∙ sym (tree-said k x (length old)), h .1 ∙ sym (tree-written k x old))
+
+-- the joined words stand in front
+pub joined-front : (t w old : List ℕ) (n : ℕ) → n ≡ length (joinedBytes t) → w ≡ joinedBytes t ++ drop n old → take n w ≡ joinedBytes t
+joined-front t w old n size h = ap (take n) h ∙ take-at (joinedBytes t) (drop n old) n (sym size)
 
 -- the words after a status word, t being what stands after it, and w the scratch
 module _ (k : StatusKind) (t w : List ℕ) (n : ℕ) (size : n ≡ length (joinedBytes t)) (has : take n w ≡ joinedBytes t) where

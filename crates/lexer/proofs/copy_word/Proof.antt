@@ -3,9 +3,9 @@ use native.Mathlib.Omega.{arith}
 use Prim.Native.Nat.{_+_, _-_, _≤_}
 use mathlib.Core.Path.{_≡_, refl, sym, ap, _∙_}
 use mathlib.Core.Bool.{Bool, false}
-use mathlib.Core.List.{_++_}
 use lib.ListN.{length, take, drop}
 use Rattle.laws.specs.Tests.{agree}
+use Rattle.fields.specs.Appended.{Appended}
 use Rattle.utf8.proofs.Laws.{char-at}
 use Rattle.lexer.specs.Runs.{runEnd}
 use Rattle.lexer.proofs.Runs.{run-on, run-off, run-bad, run-end, run-out}
@@ -14,7 +14,7 @@ use Rattle.lexer.proofs.copy_word.Statement.{statement}
 use Rattle.lexer.proofs.copy_word.Tie as tie
 
 abbrev Inv-loop : tie.InvT-loop
-Inv-loop text at out₀ to i₀ out i = (at ≤ i) × (runEnd false text i ≡ runEnd false text at) × (length out ≡ length out₀) × (take (to + (i - at)) out ≡ take to out₀ ++ take (i - at) (drop at text))
+Inv-loop text at out₀ to i₀ out i = (at ≤ i) × (runEnd false text i ≡ runEnd false text at) × (length out ≡ length out₀) × Appended (take (i - at) (drop at text)) to out₀ out (to + (i - at))
 
 abbrev μ-loop : tie.MeasureT-loop
 μ-loop text at out₀ to i₀ out i = length text - i
