@@ -1,5 +1,5 @@
-// Runs the examples of document 01 that concern kinds, packages, status words, white space and
-// format conditions, and the corners beside them, and writes a line for each.
+// Runs the examples of docs/SEMANTICS.md and docs/FORMAT.md that concern kinds, packages, status
+// words, white space and format conditions, and the corners beside them, and writes a line for each.
 //
 // A byte that is no printable character is written `\x` and two digits, an empty text `""`, and a
 // text of 100 bytes and more, which is one byte over and over, by that byte and its length.

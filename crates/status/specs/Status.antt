@@ -79,7 +79,7 @@ word-said-injective = said-injective Is (λ _. NoWord) wordSaid λ a. elim a [ I
 abbrev pub wordHeld : List ℕ → Word
 wordHeld w = record { bytes = w ++ replicate (4 - length w) 0; len = length w }
 
--- whether a receiver may check the status: the two that oblige, and X
+-- whether a receiver may check a field of this status, and reject by it
 abbrev pub isReceiverCheckable : StatusKind → Bool
 isReceiverCheckable Muss = true
 isReceiverCheckable Soll = false
