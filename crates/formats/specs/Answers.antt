@@ -10,6 +10,7 @@ use Rattle.refusal.specs.Result.{Result, ok, refuse, said-injective}
 use Rattle.utf8.specs.Limits.{textLimit, valueLimit, admitted}
 use Rattle.citation.specs.declared.Truth.{Truth}
 use Rattle.citation.specs.declared.Truth.the-variants.{False, Unknown, True}
+use Rattle.citation.specs.Truths.{truthNumber}
 use Rattle.formats.specs.declared.FormatVerdict.{FormatVerdict}
 use Rattle.formats.specs.declared.FormatVerdict.the-variants.{Holds, Violated, Unregistered}
 use Rattle.formats.specs.declared.VerdictAnswer.{VerdictAnswer}
@@ -18,11 +19,15 @@ use Rattle.formats.specs.declared.RegisteredAnswer.{RegisteredAnswer}
 use Rattle.formats.specs.declared.RegisteredAnswer.the-variants as registereds
 use Rattle.formats.specs.Table.{verdict, isRegistered}
 
+-- the truth that a verdict counts as
+abbrev pub verdictTruth : FormatVerdict → Truth
+verdictTruth Violated = False
+verdictTruth Unregistered = Unknown
+verdictTruth Holds = True
+
 -- a verdict's number among callers: that of its truth
 abbrev pub verdictNumber : FormatVerdict → ℕ
-verdictNumber Violated = 0
-verdictNumber Unregistered = 1
-verdictNumber Holds = 2
+verdictNumber v = truthNumber (verdictTruth v)
 
 -- the verdict with this number; Holds for what is none's
 abbrev pub verdictAt : ℕ → FormatVerdict
@@ -43,12 +48,6 @@ abbrev pub isVerdict : FormatVerdict → Bool
 isVerdict Violated = true
 isVerdict Unregistered = false
 isVerdict Holds = true
-
--- the truth that a verdict counts as
-abbrev pub verdictTruth : FormatVerdict → Truth
-verdictTruth Violated = False
-verdictTruth Unregistered = Unknown
-verdictTruth Holds = True
 
 -- the answer on a condition's text and a value: the text is tested first
 abbrev pub verdictAnswer : List ℕ → List ℕ → Result FormatVerdict
