@@ -7,27 +7,66 @@ use native.Mathlib.Numerals.{add-one}
 use native.Mathlib.Omega.{arith}
 use lib.Dec.{eqb, ltb}
 use lib.ListN.{length, getD, take, drop, set, length-append, drop-of-length-le}
-use lib.Seq.{take-suc-set, take-nil, length-take-le, drop-cons}
+use lib.Seq.{take-nil, length-take-le, drop-cons}
 use borrow.Author.Tests.{lt-ltb, le-ltb, eq-eqb, ne-eqb, ltb-true, ltb-false}
+use Rattle.fields.specs.Appended.{Appended}
+use Rattle.fields.proofs.Appends as appends
 use Rattle.line.specs.Sizes.{keptStatus, keptAnswers, keptValue}
 use Rattle.line.specs.Lines.{lineFeed, lines}
 use Rattle.line.specs.declared.Held.{Held}
-use Rattle.line.specs.Input.{firstLine, afterLine, lineAt, inputLines, Kept, noInput, longer, nextRow, withByte, fed, fedAll, keptIn, Buffers, noneHeld, Sized}
+use Rattle.line.specs.Input.{firstLine, afterLine, lineAt, inputLines, Kept, noInput, longer, nextRow, withByte, fed, fedAll, keptIn, behind, Buffers, noneHeld, Sized}
 use Rattle.line.proofs.Cuts.{cut-lines}
 
 -- one byte more is kept
-pub keep-one : (line : List ℕ) (len b most : ℕ) → length line ≡ most → len < most → take (len + 1) (set line len b) ≡ longer most b (take len line)
+pub keep-one : (line : List ℕ) (len b : ℕ) → len < length line → Appended (longer (length line) b (take len line)) 0 line (set line len b) (len + 1)
 unfolding longer
-keep-one line len b most e h =
-    let size : length (take len line) ≡ len = length-take-le len line (omega (arith, e)) in
-    rw (lt-ltb (length (take len line)) most (omega (arith, size)), add-one) (take-suc-set line len b (omega (arith, e)))
+keep-one line len b h =
+    let size : length (take len line) ≡ len = length-take-le len line (omega arith) in
+    let one = appends.byte line len b h in
+    rw (lt-ltb (length (take len line)) (length line) (omega (arith, size)))
+    (record { ends = omega (arith, size, length-append (take len line) (b ∷ [])); has = one .has; rest = one .rest })
 
 -- the line is full
-pub keep-full : (line : List ℕ) (len b most : ℕ) → length line ≡ most → len ≤ most → most ≤ len → take len line ≡ longer most b (take len line)
+pub keep-full : (line : List ℕ) (len b : ℕ) → len ≤ length line → length line ≤ len → Appended (longer (length line) b (take len line)) 0 line line len
 unfolding longer
-keep-full line len b most e l h =
-    let size : length (take len line) ≡ len = length-take-le len line (omega (arith, e)) in
-    rw (le-ltb (length (take len line)) most (omega (arith, size)))
+keep-full line len b l h =
+    let size : length (take len line) ≡ len = length-take-le len line l in
+    rw (le-ltb (length (take len line)) (length line) (omega (arith, size))) (record { ends = omega (arith, size); has = refl; rest = refl })
+
+-- a line is not shorter than before
+longer-long : (most b : ℕ) (t : List ℕ) → length t ≤ length (longer most b t)
+unfolding longer
+longer-long most b t = by (ltb (length t) most)
+  where
+    by : (x : Bool) → length t ≤ length (cond x (t ++ (b ∷ [])) t)
+    by true = omega (arith, length-append t (b ∷ []))
+    by false = omega arith
+
+-- no line is
+pub record Longer (h g : Kept) : Type 0 where
+  pub status : length (h .status) ≤ length (g .status)
+  pub answers : length (h .answers) ≤ length (g .answers)
+  pub value : length (h .value) ≤ length (g .value)
+
+fed-longer : (b : ℕ) (h : Kept) → Longer h (fed b h)
+unfolding fed
+fed-longer b h = by (eqb b lineFeed) (eqb (h .row) 0) (eqb (h .row) 1) (eqb (h .row) 2)
+  where
+    same : (row : ℕ) → Longer h (record { row = row; status = h .status; answers = h .answers; value = h .value })
+    same row = record { status = omega arith; answers = omega arith; value = omega arith }
+
+    by : (w x y z : Bool)
+        → Longer h
+        (cond w (record { row = nextRow (h .row); status = h .status; answers = h .answers; value = h .value })
+        (cond x (record { row = h .row; status = longer keptStatus b (h .status); answers = h .answers; value = h .value })
+        (cond y (record { row = h .row; status = h .status; answers = longer keptAnswers b (h .answers); value = h .value })
+        (cond z (record { row = h .row; status = h .status; answers = h .answers; value = longer keptValue b (h .value) })
+        h))))
+    by true x y z = same (nextRow (h .row))
+    by false true y z = record { status = longer-long keptStatus b (h .status); answers = omega arith; value = omega arith }
+    by false false true z = record { status = omega arith; answers = longer-long keptAnswers b (h .answers); value = omega arith }
+    by false false false true = record { status = omega arith; answers = omega arith; value = longer-long keptValue b (h .value) }
+    by false false false false = same (h .row)
 
 module _ (b : ℕ) (h : Kept) where
   -- a line feed
@@ -180,59 +219,87 @@ next-less row h = rw (lt-ltb row 3 h)
 pub next-last : (row : ℕ) → 3 ≤ row → row ≡ nextRow row
 next-last row h = rw (le-ltb row 3 h)
 
+-- what is kept of a line stands in its buffer
+kept-in : (line : List ℕ) (b len : ℕ) {new : List ℕ} {n : ℕ} → Appended (longer (length line) b (take len line)) 0 line new n → len ≤ length line → n ≤ length line
+unfolding longer
+kept-in line b len w l = let e = w .ends in by (ltb (length (take len line)) (length line)) refl e
+  where
+    by : {n : ℕ} (x : Bool) → ltb (length (take len line)) (length line) ≡ x → n ≡ 0 + length (cond x (take len line ++ (b ∷ [])) (take len line)) → n ≤ length line
+    by true h e = omega (arith, ltb-true (length (take len line)) (length line) h, length-append (take len line) (b ∷ []))
+    by false h e = omega (arith, length-take-le len line l)
+
+-- what `feed` says of the byte b
+abbrev Feeds : (b : ℕ) (h : Held) (s a v : List ℕ) (r : Held) (s′ a′ v′ : List ℕ) → Type 0
+Feeds b h s a v r s′ a′ v′ = Buffers r s′ a′ v′ × ((keptIn r s′ a′ v′ ≡ fed b (keptIn h s a v)) × (behind r s′ a′ v′ ≡ behind r s a v))
+
 module _ (h : Held) (s a v : List ℕ) (b : ℕ) (k : Buffers h s a v) where
   -- a line feed
-  pub line-fed : (row : ℕ) → row ≡ nextRow (h .row) → b ≡ lineFeed
-      → Buffers (record { row = row; status = h .status; answers = h .answers; value = h .value }) s a v
-      × (at row (take (h .status) s) (take (h .answers) a) (take (h .value) v) ≡ fed b (keptIn h s a v))
+  pub line-fed : (row : ℕ) → row ≡ nextRow (h .row) → b ≡ lineFeed → Feeds b h s a v (record { row = row; status = h .status; answers = h .answers; value = h .value }) s a v
   line-fed row e f = (
     record { statusSize = k .statusSize; answersSize = k .answersSize; valueSize = k .valueSize; statusIn = k .statusIn; answersIn = k .answersIn; valueIn = k .valueIn },
-    ap (λ (x : ℕ). at x (take (h .status) s) (take (h .answers) a) (take (h .value) v)) e ∙ fed-line b (keptIn h s a v) f,
+    (ap (λ (x : ℕ). at x (take (h .status) s) (take (h .answers) a) (take (h .value) v)) e ∙ fed-line b (keptIn h s a v) f, refl),
   )
 
   module _ (other : b ≡ lineFeed → ⊥) where
     -- a byte of the status
-    pub status-fed : (new : List ℕ) (n : ℕ) → h .row ≡ 0 → length new ≡ length s → n ≤ length s → take n new ≡ longer (length s) b (take (h .status) s)
-        → Buffers (record { row = h .row; status = n; answers = h .answers; value = h .value }) new a v
-        × (at (h .row) (take n new) (take (h .answers) a) (take (h .value) v) ≡ fed b (keptIn h s a v))
-    status-fed new n z l m e = (
-      record { statusSize = l ∙ k .statusSize; answersSize = k .answersSize; valueSize = k .valueSize; statusIn = omega (arith, m, k .statusSize); answersIn = k .answersIn; valueIn = k .valueIn },
-      ap (λ x. at (h .row) x (take (h .answers) a) (take (h .value) v)) (e ∙ ap (λ (x : ℕ). longer x b (take (h .status) s)) (k .statusSize)) ∙ row-here ∙ fed-byte b (keptIn h s a v) other,
+    pub status-fed : (new : List ℕ) (n : ℕ) → h .row ≡ 0 → length new ≡ length s → Appended (longer (length s) b (take (h .status) s)) 0 s new n
+        → Feeds b h s a v (record { row = h .row; status = n; answers = h .answers; value = h .value }) new a v
+    status-fed new n z l w = (
+      record { statusSize = l ∙ k .statusSize; answersSize = k .answersSize; valueSize = k .valueSize; statusIn = omega (arith, kept-in s b (h .status) w (omega (arith, k .statusSize, k .statusIn)), k .statusSize); answersIn = k .answersIn; valueIn = k .valueIn },
+      (ap (λ x. at (h .row) x (take (h .answers) a) (take (h .value) v)) (w .has ∙ ap (λ (x : ℕ). longer x b (take (h .status) s)) (k .statusSize)) ∙ row-here ∙ fed-byte b (keptIn h s a v) other, ap (λ x. at (h .row) x (drop (h .answers) a) (drop (h .value) v)) (w .rest)),
     )
       where
         row-here : at (h .row) (longer keptStatus b (take (h .status) s)) (take (h .answers) a) (take (h .value) v) ≡ withByte b (keptIn h s a v)
         row-here = rw (eq-eqb (h .row) 0 z)
 
     -- a letter
-    pub answers-fed : (new : List ℕ) (n : ℕ) → h .row ≡ 1 → length new ≡ length a → n ≤ length a → take n new ≡ longer (length a) b (take (h .answers) a)
-        → Buffers (record { row = h .row; status = h .status; answers = n; value = h .value }) s new v
-        × (at (h .row) (take (h .status) s) (take n new) (take (h .value) v) ≡ fed b (keptIn h s a v))
-    answers-fed new n z l m e = (
-      record { statusSize = k .statusSize; answersSize = l ∙ k .answersSize; valueSize = k .valueSize; statusIn = k .statusIn; answersIn = omega (arith, m, k .answersSize); valueIn = k .valueIn },
-      ap (λ x. at (h .row) (take (h .status) s) x (take (h .value) v)) (e ∙ ap (λ (x : ℕ). longer x b (take (h .answers) a)) (k .answersSize)) ∙ row-here ∙ fed-byte b (keptIn h s a v) other,
+    pub answers-fed : (new : List ℕ) (n : ℕ) → h .row ≡ 1 → length new ≡ length a → Appended (longer (length a) b (take (h .answers) a)) 0 a new n
+        → Feeds b h s a v (record { row = h .row; status = h .status; answers = n; value = h .value }) s new v
+    answers-fed new n z l w = (
+      record { statusSize = k .statusSize; answersSize = l ∙ k .answersSize; valueSize = k .valueSize; statusIn = k .statusIn; answersIn = omega (arith, kept-in a b (h .answers) w (omega (arith, k .answersSize, k .answersIn)), k .answersSize); valueIn = k .valueIn },
+      (ap (λ x. at (h .row) (take (h .status) s) x (take (h .value) v)) (w .has ∙ ap (λ (x : ℕ). longer x b (take (h .answers) a)) (k .answersSize)) ∙ row-here ∙ fed-byte b (keptIn h s a v) other, ap (λ x. at (h .row) (drop (h .status) s) x (drop (h .value) v)) (w .rest)),
     )
       where
         row-here : at (h .row) (take (h .status) s) (longer keptAnswers b (take (h .answers) a)) (take (h .value) v) ≡ withByte b (keptIn h s a v)
         row-here = rw (ne-eqb (h .row) 0 (λ q. omega (arith, q, z)), eq-eqb (h .row) 1 z)
 
     -- a byte of the value
-    pub value-fed : (new : List ℕ) (n : ℕ) → h .row ≡ 2 → length new ≡ length v → n ≤ length v → take n new ≡ longer (length v) b (take (h .value) v)
-        → Buffers (record { row = h .row; status = h .status; answers = h .answers; value = n }) s a new
-        × (at (h .row) (take (h .status) s) (take (h .answers) a) (take n new) ≡ fed b (keptIn h s a v))
-    value-fed new n z l m e = (
-      record { statusSize = k .statusSize; answersSize = k .answersSize; valueSize = l ∙ k .valueSize; statusIn = k .statusIn; answersIn = k .answersIn; valueIn = omega (arith, m, k .valueSize) },
-      ap (λ x. at (h .row) (take (h .status) s) (take (h .answers) a) x) (e ∙ ap (λ (x : ℕ). longer x b (take (h .value) v)) (k .valueSize)) ∙ row-here ∙ fed-byte b (keptIn h s a v) other,
+    pub value-fed : (new : List ℕ) (n : ℕ) → h .row ≡ 2 → length new ≡ length v → Appended (longer (length v) b (take (h .value) v)) 0 v new n
+        → Feeds b h s a v (record { row = h .row; status = h .status; answers = h .answers; value = n }) s a new
+    value-fed new n z l w = (
+      record { statusSize = k .statusSize; answersSize = k .answersSize; valueSize = l ∙ k .valueSize; statusIn = k .statusIn; answersIn = k .answersIn; valueIn = omega (arith, kept-in v b (h .value) w (omega (arith, k .valueSize, k .valueIn)), k .valueSize) },
+      (ap (λ x. at (h .row) (take (h .status) s) (take (h .answers) a) x) (w .has ∙ ap (λ (x : ℕ). longer x b (take (h .value) v)) (k .valueSize)) ∙ row-here ∙ fed-byte b (keptIn h s a v) other, ap (λ x. at (h .row) (drop (h .status) s) (drop (h .answers) a) x) (w .rest)),
     )
       where
         row-here : at (h .row) (take (h .status) s) (take (h .answers) a) (longer keptValue b (take (h .value) v)) ≡ withByte b (keptIn h s a v)
         row-here = rw (ne-eqb (h .row) 0 (λ q. omega (arith, q, z)), ne-eqb (h .row) 1 (λ q. omega (arith, q, z)), eq-eqb (h .row) 2 z)
 
     -- a byte after the third line
-    pub past-fed : (h .row ≡ 0 → ⊥) → (h .row ≡ 1 → ⊥) → (h .row ≡ 2 → ⊥) → Buffers h s a v × (keptIn h s a v ≡ fed b (keptIn h s a v))
-    past-fed x y z = (k, row-here ∙ fed-byte b (keptIn h s a v) other)
+    pub past-fed : (h .row ≡ 0 → ⊥) → (h .row ≡ 1 → ⊥) → (h .row ≡ 2 → ⊥) → Feeds b h s a v h s a v
+    past-fed x y z = (k, (row-here ∙ fed-byte b (keptIn h s a v) other, refl))
       where
         row-here : keptIn h s a v ≡ withByte b (keptIn h s a v)
         row-here = rw (ne-eqb (h .row) 0 x, ne-eqb (h .row) 1 y, ne-eqb (h .row) 2 z)
+
+-- one byte more, and what stands behind since the bytes before it
+module _ (b : ℕ) (h r : Held) (s a v s′ a′ v′ : List ℕ) (k : Buffers h s a v) (f : Feeds b h s a v r s′ a′ v′) where
+  counts-on : (h .status ≤ r .status) × (h .answers ≤ r .answers) × (h .value ≤ r .value)
+  counts-on =
+      let l = fed-longer b (keptIn h s a v) in
+      let m = f .0 in
+      let e = f .1 .0 in (
+        omega (arith, l .status, ap (λ x. length (x .status)) e, length-take-le (h .status) s (omega (arith, k .statusIn, k .statusSize)), length-take-le (r .status) s′ (omega (arith, m .statusIn, m .statusSize))),
+        omega (arith, l .answers, ap (λ x. length (x .answers)) e, length-take-le (h .answers) a (omega (arith, k .answersIn, k .answersSize)), length-take-le (r .answers) a′ (omega (arith, m .answersIn, m .answersSize))),
+        omega (arith, l .value, ap (λ x. length (x .value)) e, length-take-le (h .value) v (omega (arith, k .valueIn, k .valueSize)), length-take-le (r .value) v′ (omega (arith, m .valueIn, m .valueSize))),
+      )
+
+  pub behind-on : (s₀ a₀ v₀ : List ℕ) → behind h s a v ≡ behind h s₀ a₀ v₀ → behind r s′ a′ v′ ≡ behind r s₀ a₀ v₀
+  behind-on s₀ a₀ v₀ e =
+      let c = counts-on in
+      f .1 .1
+      ∙ ap (λ x. at (r .row) x (drop (r .answers) a) (drop (r .value) v)) (appends.on (h .status) (r .status) s₀ s (c .0) (ap (λ x. x .status) e))
+      ∙ ap (λ x. at (r .row) (drop (r .status) s₀) x (drop (r .value) v)) (appends.on (h .answers) (r .answers) a₀ a (c .1) (ap (λ x. x .answers) e))
+      ∙ ap (λ x. at (r .row) (drop (r .status) s₀) (drop (r .answers) a₀) x) (appends.on (h .value) (r .value) v₀ v (c .2) (ap (λ x. x .value) e))
 
 -- the next byte of an input
 pub fed-next : (input : List ℕ) (i : ℕ) (h : Kept) → i < length input → fedAll (drop i input) h ≡ fedAll (drop (i + 1) input) (fed (getD input i 0) h)

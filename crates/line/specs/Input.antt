@@ -4,7 +4,7 @@ use mathlib.Core.List.{List, [], _∷_, _++_}
 use mathlib.Core.Bool.{cond}
 use Prim.Native.Nat.{ℕ, zero, suc, _+_, _≤_}
 use lib.Dec.{eqb, ltb}
-use lib.ListN.{length, take}
+use lib.ListN.{length, take, drop}
 use Rattle.line.specs.Sizes.{keptStatus, keptAnswers, keptValue}
 use Rattle.line.specs.Lines.{lineFeed, lines}
 use Rattle.line.specs.declared.Held.{Held}
@@ -67,6 +67,10 @@ fedAll (b ∷ s) h = fedAll s (fed b h)
 -- what stands in three buffers
 abbrev pub keptIn : Held → (status answers value : List ℕ) → Kept
 keptIn h s a v = record { row = h .row; status = take (h .status) s; answers = take (h .answers) a; value = take (h .value) v }
+
+-- what stands behind that
+abbrev pub behind : Held → (status answers value : List ℕ) → Kept
+behind h s a v = record { row = h .row; status = drop (h .status) s; answers = drop (h .answers) a; value = drop (h .value) v }
 
 -- the buffers are as long as what decides, and the counts within them
 pub record Buffers (h : Held) (s a v : List ℕ) : Type 0 where

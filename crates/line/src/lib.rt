@@ -38,7 +38,7 @@ ghost use Rattle.fields.specs.Appended.{Appended};
 ghost use Rattle.tree.specs.Walk.{textAt};
 ghost use Rattle.line.specs.Lines.{answerByte, answerBytes, figure, figures, truthName, named, line, aloneLines, formatSaid, treeLines, judgedLines, shown, lines, reportAnswer};
 ghost use Rattle.line.specs.Said.{reportSaid};
-ghost use Rattle.line.specs.Input.{longer, nextRow, fed, fedAll, keptIn, Buffers, noneHeld};
+ghost use Rattle.line.specs.Input.{longer, nextRow, fed, fedAll, keptIn, behind, Buffers, noneHeld};
 ghost use Rattle.line.specs.Sizes.{longestWord, longestTruth, longestNumber, longestRows, longestList, longestStatusLine, longestTreeLine, longestPresenceLine, longestPaketeLine, longestFormatLine, longestRefusedLine, longestReport};
 ghost use Rattle.line.specs.Parts.{Within, numbersFrom, AllBelow, Admitted};
 
@@ -385,7 +385,7 @@ pub fn report(status: &[u8], answers: &[u8], value: &[u8], out: &mut [u8]) -> Re
 // One byte more of a line, unless it is full; the answer is how many are kept.
 fn keep(b: u8, line: &mut [u8], len: usize) -> usize
     requires { ⌜ len ≤ length (now line) ⌝ }
-    ensures { λ r. ⌜ (r ≤ length (now (line .entry))) × (take r (now (line .exit)) ≡ longer (length (now (line .entry))) b (take len (now (line .entry)))) ⌝ }
+    ensures { λ r. ⌜ Appended (longer (length (now (line .entry))) b (take len (now (line .entry)))) 0 (now (line .entry)) (now (line .exit)) r ⌝ }
 {
     if len < line.len() {
         line[len] = b;
@@ -416,11 +416,12 @@ impl Held {
     }
 }
 
-// One byte more of an input.
+// One byte more of an input; behind what is kept the buffers stay as they were.
 pub fn feed(b: u8, held: Held, status: &mut [u8], answers: &mut [u8], value: &mut [u8]) -> Held
     requires { ⌜ Buffers held (now status) (now answers) (now value) ⌝ }
     ensures { λ r. ⌜ Buffers r (now (status .exit)) (now (answers .exit)) (now (value .exit)) ⌝ }
     ensures { λ r. ⌜ keptIn r (now (status .exit)) (now (answers .exit)) (now (value .exit)) ≡ fed b (keptIn held (now (status .entry)) (now (answers .entry)) (now (value .entry))) ⌝ }
+    ensures { λ r. ⌜ behind r (now (status .exit)) (now (answers .exit)) (now (value .exit)) ≡ behind r (now (status .entry)) (now (answers .entry)) (now (value .entry)) ⌝ }
 {
     let row = held.row;
     if b == b'\n' {
@@ -472,6 +473,7 @@ pub fn feed_all(
     requires { ⌜ Buffers held (now status) (now answers) (now value) ⌝ }
     ensures { λ r. ⌜ Buffers r (now (status .exit)) (now (answers .exit)) (now (value .exit)) ⌝ }
     ensures { λ r. ⌜ keptIn r (now (status .exit)) (now (answers .exit)) (now (value .exit)) ≡ fedAll (now (input .entry)) (keptIn held (now (status .entry)) (now (answers .entry)) (now (value .entry))) ⌝ }
+    ensures { λ r. ⌜ behind r (now (status .exit)) (now (answers .exit)) (now (value .exit)) ≡ behind r (now (status .entry)) (now (answers .entry)) (now (value .entry)) ⌝ }
 {
     let mut state = held;
     let mut i = 0;

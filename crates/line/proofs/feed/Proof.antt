@@ -17,7 +17,7 @@ same-length : tie.Need-same-length
 same-length c = search needs
 
 returns-2 : tie.Need-returns-2
-returns-2 c = status-fed (c .before .before .before .before .before .before .before .before .before .args .held) (c .before .before .before .before .before .before .before .before .before .args .status .now) (c .before .before .before .before .before .before .before .before .before .args .answers .now) (c .before .before .before .before .before .before .before .before .before .args .value .now) (c .before .before .before .before .before .before .before .before .before .args .b) (c .before .before .before .before .before .before .before .before .before .pre) (c .before .before .before .before .before .if1 .left) (c .before .before .keep .last .1 .0) _ (c .before .before .before .before .if2 .taken) (c .before .before .keep .kept .1 .0) (c .before .before .keep .ensures .0) (c .before .before .keep .ensures .1)
+returns-2 c = status-fed (c .before .before .before .before .before .before .before .before .before .args .held) (c .before .before .before .before .before .before .before .before .before .args .status .now) (c .before .before .before .before .before .before .before .before .before .args .answers .now) (c .before .before .before .before .before .before .before .before .before .args .value .now) (c .before .before .before .before .before .before .before .before .before .args .b) (c .before .before .before .before .before .before .before .before .before .pre) (c .before .before .before .before .before .if1 .left) (c .before .before .keep .last .1 .0) _ (c .before .before .before .before .if2 .taken) (c .before .before .keep .kept .1 .0) (c .before .before .keep .ensures)
 
 keep-requires-2 : tie.Need-keep-requires-2
 keep-requires-2 c κs = omega (arith, c .before .before .before .before .before .before .before .pre .answersSize, c .before .before .before .before .before .before .before .pre .answersIn)
@@ -26,7 +26,7 @@ same-length-2 : tie.Need-same-length-2
 same-length-2 c = search needs
 
 returns-3 : tie.Need-returns-3
-returns-3 c = answers-fed (c .before .before .before .before .before .before .before .before .before .before .args .held) (c .before .before .before .before .before .before .before .before .before .before .args .status .now) (c .before .before .before .before .before .before .before .before .before .before .args .answers .now) (c .before .before .before .before .before .before .before .before .before .before .args .value .now) (c .before .before .before .before .before .before .before .before .before .before .args .b) (c .before .before .before .before .before .before .before .before .before .before .pre) (c .before .before .before .before .before .before .if1 .left) (c .before .before .keep2 .last .1 .0) _ (c .before .before .before .before .if3 .taken) (c .before .before .keep2 .kept .1 .0) (c .before .before .keep2 .ensures .0) (c .before .before .keep2 .ensures .1)
+returns-3 c = answers-fed (c .before .before .before .before .before .before .before .before .before .before .args .held) (c .before .before .before .before .before .before .before .before .before .before .args .status .now) (c .before .before .before .before .before .before .before .before .before .before .args .answers .now) (c .before .before .before .before .before .before .before .before .before .before .args .value .now) (c .before .before .before .before .before .before .before .before .before .before .args .b) (c .before .before .before .before .before .before .before .before .before .before .pre) (c .before .before .before .before .before .before .if1 .left) (c .before .before .keep2 .last .1 .0) _ (c .before .before .before .before .if3 .taken) (c .before .before .keep2 .kept .1 .0) (c .before .before .keep2 .ensures)
 
 keep-requires-3 : tie.Need-keep-requires-3
 keep-requires-3 c κs = omega (arith, c .before .before .before .before .before .before .before .before .pre .valueSize, c .before .before .before .before .before .before .before .before .pre .valueIn)
@@ -35,7 +35,7 @@ same-length-3 : tie.Need-same-length-3
 same-length-3 c = search needs
 
 returns-4 : tie.Need-returns-4
-returns-4 c = value-fed (c .before .before .before .before .before .before .before .before .before .before .before .args .held) (c .before .before .before .before .before .before .before .before .before .before .before .args .status .now) (c .before .before .before .before .before .before .before .before .before .before .before .args .answers .now) (c .before .before .before .before .before .before .before .before .before .before .before .args .value .now) (c .before .before .before .before .before .before .before .before .before .before .before .args .b) (c .before .before .before .before .before .before .before .before .before .before .before .pre) (c .before .before .before .before .before .before .before .if1 .left) (c .before .before .keep3 .last .1 .0) _ (c .before .before .before .before .if4 .taken) (c .before .before .keep3 .kept .1 .0) (c .before .before .keep3 .ensures .0) (c .before .before .keep3 .ensures .1)
+returns-4 c = value-fed (c .before .before .before .before .before .before .before .before .before .before .before .args .held) (c .before .before .before .before .before .before .before .before .before .before .before .args .status .now) (c .before .before .before .before .before .before .before .before .before .before .before .args .answers .now) (c .before .before .before .before .before .before .before .before .before .before .before .args .value .now) (c .before .before .before .before .before .before .before .before .before .before .before .args .b) (c .before .before .before .before .before .before .before .before .before .before .before .pre) (c .before .before .before .before .before .before .before .if1 .left) (c .before .before .keep3 .last .1 .0) _ (c .before .before .before .before .if4 .taken) (c .before .before .keep3 .kept .1 .0) (c .before .before .keep3 .ensures)
 
 returns-5 : tie.Need-returns-5
 returns-5 c = past-fed (c .before .before .before .before .before .before .before .args .held) (c .before .before .before .before .before .before .before .args .status .now) (c .before .before .before .before .before .before .before .args .answers .now) (c .before .before .before .before .before .before .before .args .value .now) (c .before .before .before .before .before .before .before .args .b) (c .before .before .before .before .before .before .before .pre) (c .before .before .before .if1 .left) (c .before .before .if2 .left) (c .before .if3 .left) (c .if4 .left)

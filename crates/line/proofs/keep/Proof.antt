@@ -1,4 +1,3 @@
-use mathlib.Core.Path.{refl}
 use native.Mathlib.Omega.{arith}
 use Rattle.line.proofs.Inputs.{keep-one, keep-full}
 use borrow.Author.Needs.{needs}
@@ -15,10 +14,10 @@ same-length : tie.Need-same-length
 same-length c = search needs
 
 returns : tie.Need-returns
-returns c = (omega arith, keep-one (c .before .args .line .now) (c .before .args .len) (c .before .args .b) _ refl (omega arith))
+returns c = keep-one (c .before .args .line .now) (c .before .args .len) (c .before .args .b) (omega arith)
 
 returns-2 : tie.Need-returns-2
-returns-2 c = (omega (arith, c .before .pre), keep-full (c .before .args .line .now) (c .before .args .len) (c .before .args .b) _ refl (c .before .pre) (omega arith))
+returns-2 c = keep-full (c .before .args .line .now) (c .before .args .len) (c .before .args .b) (c .before .pre) (omega arith)
 
 pub keep-spec : {M : Type 1} → statement M
 keep-spec =
