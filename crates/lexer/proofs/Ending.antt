@@ -2,18 +2,17 @@
 use Prim.Native.Nat.{ℕ, _+_, _-_, _≤_, _<_}
 use mathlib.Core.Path.{_≡_, refl, sym, ap, _∙_}
 use mathlib.Core.Bool.{Bool, true, false, cond, _&&_}
-use mathlib.Core.List.{List, [], _∷_, _++_, append-nil}
+use mathlib.Core.List.{List, [], _∷_, _++_, append-nil, append-assoc}
 use native.Mathlib.Omega.{arith}
 use lib.ListN.{length, take, drop, length-drop}
-use Rattle.refusal.specs.Result.{refuse}
 use Rattle.refusal.specs.declared.Refusal.the-variants.{Unterminated, EmptyCondition}
 use Rattle.utf8.specs.Utf8.{isUtf8, decode, encode, encodeChar}
 use Rattle.utf8.specs.White.{isWhite}
 use Rattle.utf8.proofs.Sound.{utf8-sound}
-use Rattle.grammar.specs.Lex.{cited, citeEnd, blank, also, inner, lex, inside}
-use Rattle.grammar.specs.Citable.{holds}
-use Rattle.grammar.specs.LexPrint.{inside-read, inside-open}
+use Rattle.grammar.specs.Lex.{cited, citeEnd, blank}
+use Rattle.grammar.specs.Citable.{holds, holds-none}
 use Rattle.lexer.specs.Runs.{leading, runEnd, upTo, fromOn}
+use Rattle.lexer.specs.Scan.{halt, meets, innerScan, scan, scanIn}
 use Rattle.lexer.specs.State.{Closing}
 use Rattle.lexer.proofs.Split.{char-size, size-cons, encode-none, passed}
 use Rattle.lexer.proofs.Runs.{upto-from, upto-free, from-head, upto-bytes}
@@ -46,9 +45,22 @@ end-size : length (encode (citeEnd ∷ [])) ≡ 1
 unfolding encodeChar
 end-size = refl
 
-inside-closed : (a r : List ℕ) → inside a (citeEnd ∷ r) ≡ cond (blank a) (refuse EmptyCondition) (also (cited (encode a)) (lex r))
-unfolding inside inner
-inside-closed a r = refl
+inside-closed : (from : ℕ) (a r : List ℕ) → scanIn from a (citeEnd ∷ r) ≡ cond (blank a) (halt EmptyCondition) (meets from (cited (encode a)) (scan (from + length (encode a) + 1) r))
+unfolding scan innerScan
+inside-closed from a r = refl
+
+-- a citation goes on to its `]`
+inside-read : (from : ℕ) (t u cs : List ℕ) → holds citeEnd u ≡ false → scanIn from t (u ++ (citeEnd ∷ cs)) ≡ scanIn from (t ++ u) (citeEnd ∷ cs)
+unfolding scan innerScan holds
+inside-read from t [] cs h = rw append-nil
+inside-read from t (c ∷ u) cs h =
+    let r = holds-none citeEnd c u h in rw (r .0) (inside-read from (t ++ (c ∷ [])) u cs (r .1) ∙ rw append-assoc)
+
+-- a citation goes on to the end, if no `]` follows
+inside-open : (from : ℕ) (t u : List ℕ) → holds citeEnd u ≡ false → scanIn from t u ≡ halt Unterminated
+unfolding scan innerScan holds
+inside-open from t [] h = refl
+inside-open from t (c ∷ u) h = let r = holds-none citeEnd c u h in rw (r .0) (inside-open from (t ++ (c ∷ [])) u (r .1))
 
 -- the characters from `at` on, up to the first `]`, which stands at `end`, and from there on
 record Found (s : List ℕ) (at end : ℕ) : Type 0 where
@@ -81,29 +93,30 @@ module _ (s : List ℕ) (at end : ℕ) (h : at ≤ length s) (u : isUtf8 (drop a
       let p = passed s at (f .text) (f .later) h u (f .split) in
       omega (arith, ap length (p .left), length-drop (at + length (encode (f .text))) s, f .is)
 
-  pub never-ends : length s ≤ end → inside [] (decode (drop at s)) ≡ refuse Unterminated
+  pub never-ends : length s ≤ end → scanIn at [] (decode (drop at s)) ≡ halt Unterminated
   never-ends l =
       let f = found s at end u e in
       let none : f .later ≡ [] = encode-none (f .later) (omega (arith, left f)) in
-      ap (inside []) (f .split ∙ ap (λ (x : List ℕ). f .text ++ x) none ∙ append-nil (f .text)) ∙ inside-open [] (f .text) (f .free)
+      ap (scanIn at []) (f .split ∙ ap (λ (x : List ℕ). f .text ++ x) none ∙ append-nil (f .text)) ∙ inside-open at [] (f .text) (f .free)
 
   module _ (l : end < length s) where
     closed : (f : Found s at end) → f .later ≡ citeEnd ∷ drop 1 (f .later)
     closed f = f .head (λ q. omega (arith, left f, ap (λ (x : List ℕ). length (encode x)) q))
 
-    goes : (f : Found s at end) → inside [] (decode (drop at s)) ≡ cond (blank (f .text)) (refuse EmptyCondition) (also (cited (encode (f .text))) (lex (drop 1 (f .later))))
+    goes : (f : Found s at end) → scanIn at [] (decode (drop at s)) ≡ cond (blank (f .text)) (halt EmptyCondition) (meets at (cited (encode (f .text))) (scan (end + 1) (drop 1 (f .later))))
     goes f =
-        ap (inside []) (f .split ∙ ap (λ (x : List ℕ). f .text ++ x) (closed f))
-        ∙ inside-read [] (f .text) (drop 1 (f .later)) (f .free)
-        ∙ inside-closed (f .text) (drop 1 (f .later))
+        ap (scanIn at []) (f .split ∙ ap (λ (x : List ℕ). f .text ++ x) (closed f))
+        ∙ inside-read at [] (f .text) (drop 1 (f .later)) (f .free)
+        ∙ inside-closed at (f .text) (drop 1 (f .later))
+        ∙ ap (λ (n : ℕ). cond (blank (f .text)) (halt EmptyCondition) (meets at (cited (encode (f .text))) (scan (n + 1) (drop 1 (f .later))))) (sym (f .is))
 
     white : (f : Found s at end) → leading true (decode (drop at s)) ≡ leading true (f .text ++ (citeEnd ∷ drop 1 (f .later)))
     white f = ap (leading true) (f .split ∙ ap (λ (x : List ℕ). f .text ++ x) (closed f))
 
-    pub ends-blank : runEnd true s at ≡ end → inside [] (decode (drop at s)) ≡ refuse EmptyCondition
+    pub ends-blank : runEnd true s at ≡ end → scanIn at [] (decode (drop at s)) ≡ halt EmptyCondition
     ends-blank q =
         let f = found s at end u e in
-        goes f ∙ ap (λ (x : Bool). cond x (refuse EmptyCondition) (also (cited (encode (f .text))) (lex (drop 1 (f .later))))) (go f (blank (f .text)) refl)
+        goes f ∙ ap (λ (x : Bool). cond x (halt EmptyCondition) (meets at (cited (encode (f .text))) (scan (end + 1) (drop 1 (f .later))))) (go f (blank (f .text)) refl)
       where
         go : (f : Found s at end) (x : Bool) → blank (f .text) ≡ x → blank (f .text) ≡ true
         go f true k = k
@@ -125,9 +138,9 @@ module _ (s : List ℕ) (at end : ℕ) (h : at ≤ length s) (u : isUtf8 (drop a
           ahead = record { later = omega arith; room = omega arith; well = ap (λ (n : ℕ). isUtf8 (drop n s)) (sym next) ∙ r .well };
           goes =
               goes f
-              ∙ ap (λ (x : Bool). cond x (refuse EmptyCondition) (also (cited (encode (f .text))) (lex (drop 1 (f .later))))) (go f (blank (f .text)) refl)
-              ∙ ap (λ (x : List ℕ). also (cited x) (lex (drop 1 (f .later)))) (sym (ap (λ (n : ℕ). take n (drop at s)) size ∙ p .bytes))
-              ∙ ap (λ (x : List ℕ). also (cited (take (end - at) (drop at s))) (lex x)) (sym (ap (λ (n : ℕ). decode (drop n s)) (sym next) ∙ r .goes));
+              ∙ ap (λ (x : Bool). cond x (halt EmptyCondition) (meets at (cited (encode (f .text))) (scan (end + 1) (drop 1 (f .later))))) (go f (blank (f .text)) refl)
+              ∙ ap (λ (x : List ℕ). meets at (cited x) (scan (end + 1) (drop 1 (f .later)))) (sym (ap (λ (n : ℕ). take n (drop at s)) size ∙ p .bytes))
+              ∙ ap (λ (x : List ℕ). meets at (cited (take (end - at) (drop at s))) (scan (end + 1) x)) (sym (ap (λ (n : ℕ). decode (drop n s)) (sym next) ∙ r .goes));
         }
       where
         go : (f : Found s at end) (x : Bool) → blank (f .text) ≡ x → blank (f .text) ≡ false

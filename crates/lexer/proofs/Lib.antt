@@ -4,6 +4,7 @@ pub mod Copies
 pub mod Limits
 pub mod Ending
 pub mod Marks
+pub mod Scans
 pub mod Turns
 pub mod Joining
 pub mod Told

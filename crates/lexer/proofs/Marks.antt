@@ -1,21 +1,22 @@
 -- The token that a text begins with. Assumes nothing.
-use Prim.Native.Nat.{ℕ, _+_, _-_, _<_}
+use Prim.Native.Nat.{ℕ, _+_, _≤_, _<_}
 use mathlib.Core.Path.{_≡_, refl, sym, ap, _∙_}
 use mathlib.Core.Bool.{true}
 use mathlib.Core.List.{List, [], _∷_}
 use native.Mathlib.Omega.{arith}
 use lib.ListN.{length, drop, getD, length-drop}
-use Rattle.refusal.specs.Result.{Result, refuse}
 use Rattle.refusal.specs.declared.Refusal.{Refusal}
 use Rattle.refusal.specs.declared.Refusal.the-variants.{Stray}
 use Rattle.utf8.specs.Utf8.{isUtf8, decode, stepAt}
 use Rattle.utf8.specs.declared.Step.the-variants.{Char, Bad, End}
 use Rattle.utf8.proofs.Laws.{char-at, decode-at, step-bad, step-end}
 use Rattle.grammar.specs.Expr.{And, Or, Xor}
-use Rattle.grammar.specs.Lex.{Tok, op, opening, closing, Part, bracket, sign, left, right, space, stray, part, also, outer, lex, inside, texts}
+use Rattle.grammar.specs.Lex.{Tok, op, opening, closing, Part, bracket, sign, left, right, space, stray, part, texts}
 use Rattle.grammar.specs.Rows.{citeKind, opKind}
 use Rattle.lexer.specs.Tokens.{kindOf, partNumber}
+use Rattle.lexer.specs.Scan.{Scan, halt, meets, outerScan, scan, scanIn}
 use Rattle.lexer.specs.State.{Ahead, Closing, Marked, Cites}
+use Rattle.lexer.proofs.Split.{step-width}
 
 -- UTF-8 has no bad step
 pub no-bad : (s : List ℕ) (i : ℕ) → isUtf8 (drop i s) ≡ true → stepAt s i ≡ Bad → ⊥
@@ -46,32 +47,33 @@ record Plain (p : Part) : Type 0 where
   pub tok : Tok
   pub kind : kindOf tok ≡ partNumber p
   pub plain : texts (tok ∷ []) ≡ []
-  pub goes : (x y : Result (List Tok)) → outer p x y ≡ also tok y
+  pub goes : (at : ℕ) (x y : Scan) → outerScan p at x y ≡ meets at tok y
 
 plain-part : (p : Part) → (partNumber p ≡ citeKind → ⊥) → (partNumber p ≡ 7 → ⊥) → (partNumber p ≡ 8 → ⊥) → Plain p
-unfolding partNumber kindOf texts outer
+unfolding partNumber kindOf texts outerScan
 plain-part bracket h k l = absurd (h refl)
-plain-part (sign o) h k l = record { tok = op o; kind = refl; plain = refl; goes = λ x y. refl }
-plain-part left h k l = record { tok = opening; kind = refl; plain = refl; goes = λ x y. refl }
-plain-part right h k l = record { tok = closing; kind = refl; plain = refl; goes = λ x y. refl }
+plain-part (sign o) h k l = record { tok = op o; kind = refl; plain = refl; goes = λ at x y. refl }
+plain-part left h k l = record { tok = opening; kind = refl; plain = refl; goes = λ at x y. refl }
+plain-part right h k l = record { tok = closing; kind = refl; plain = refl; goes = λ at x y. refl }
 plain-part space h k l = absurd (k refl)
 plain-part stray h k l = absurd (l refl)
 
-outer-bracket : (x y : Result (List Tok)) → outer bracket x y ≡ x
-unfolding outer
-outer-bracket x y = refl
+scan-bracket : (at : ℕ) (x y : Scan) → outerScan bracket at x y ≡ x
+unfolding outerScan
+scan-bracket at x y = refl
 
-outer-space : (x y : Result (List Tok)) → outer space x y ≡ y
-unfolding outer
-outer-space x y = refl
+scan-space : (at : ℕ) (x y : Scan) → outerScan space at x y ≡ y
+unfolding outerScan
+scan-space at x y = refl
 
-outer-stray : (x y : Result (List Tok)) → outer stray x y ≡ refuse Stray
-unfolding outer
-outer-stray x y = refl
+scan-stray : (at : ℕ) (x y : Scan) → outerScan stray at x y ≡ halt Stray
+unfolding outerScan
+scan-stray at x y = refl
 
-lex-step : (s : List ℕ) (at c w : ℕ) → stepAt s at ≡ Char c w → lex (decode (drop at s)) ≡ outer (part c) (inside [] (decode (drop (at + w) s))) (lex (decode (drop (at + w) s)))
-unfolding lex
-lex-step s at c w e = rw (decode-at s at c w e)
+scan-step : (s : List ℕ) (at c w : ℕ) → at ≤ length s → stepAt s at ≡ Char c w
+    → scan at (decode (drop at s)) ≡ outerScan (part c) at (scanIn (at + w) [] (decode (drop (at + w) s))) (scan (at + w) (decode (drop (at + w) s)))
+unfolding scan
+scan-step s at c w h e = rw (decode-at s at c w e, step-width s at c w h e)
 
 -- a character at `at` of w bytes, of which `part_of` says k
 module _ (s : List ℕ) (at c w k : ℕ) (h : at < length s) (u : isUtf8 (drop at s) ≡ true) (e : stepAt s at ≡ Char c w) where
@@ -81,25 +83,25 @@ module _ (s : List ℕ) (at c w k : ℕ) (h : at < length s) (u : isUtf8 (drop a
       record { later = omega (arith, d .2); room = d .3; well = sym (d .0) ∙ u }
 
   module _ (r : k ≡ partNumber (part c)) where
-    goes : (n : ℕ) → k ≡ n → lex (decode (drop at s)) ≡ outer (partAt n) (inside [] (decode (drop (at + w) s))) (lex (decode (drop (at + w) s)))
+    goes : (n : ℕ) → k ≡ n → scan at (decode (drop at s)) ≡ outerScan (partAt n) at (scanIn (at + w) [] (decode (drop (at + w) s))) (scan (at + w) (decode (drop (at + w) s)))
     goes n l =
         let p : part c ≡ partAt n = sym (part-at (part c)) ∙ ap partAt (sym r ∙ l) in
-        lex-step s at c w e ∙ ap (λ (x : Part). outer x (inside [] (decode (drop (at + w) s))) (lex (decode (drop (at + w) s)))) p
+        scan-step s at c w (omega arith) e ∙ ap (λ (x : Part). outerScan x at (scanIn (at + w) [] (decode (drop (at + w) s))) (scan (at + w) (decode (drop (at + w) s)))) p
 
-    pub token-space : k ≡ 7 → Ahead s at (at + w) × (lex (decode (drop at s)) ≡ lex (decode (drop (at + w) s)))
-    token-space l = (step-ahead, goes 7 l ∙ outer-space _ _)
+    pub token-space : k ≡ 7 → Ahead s at (at + w) × (scan at (decode (drop at s)) ≡ scan (at + w) (decode (drop (at + w) s)))
+    token-space l = (step-ahead, goes 7 l ∙ scan-space _ _ _)
 
-    pub token-stray : k ≡ 8 → lex (decode (drop at s)) ≡ refuse Stray
-    token-stray l = goes 8 l ∙ outer-stray _ _
+    pub token-stray : k ≡ 8 → scan at (decode (drop at s)) ≡ halt Stray
+    token-stray l = goes 8 l ∙ scan-stray _ _ _
 
     pub token-mark : (k ≡ citeKind → ⊥) → (k ≡ 7 → ⊥) → (k ≡ 8 → ⊥) → Marked s at k (at + w)
     token-mark l m n =
         let p = plain-part (part c) (λ q. l (r ∙ q)) (λ q. m (r ∙ q)) (λ q. n (r ∙ q)) in
-        record { tok = p .tok; kind = p .kind ∙ sym r; plain = p .plain; ahead = step-ahead; goes = lex-step s at c w e ∙ p .goes _ _ }
+        record { tok = p .tok; kind = p .kind ∙ sym r; plain = p .plain; ahead = step-ahead; goes = scan-step s at c w (omega arith) e ∙ p .goes _ _ _ }
 
-    pub token-never : k ≡ citeKind → (why : Refusal) → inside [] (decode (drop (at + w) s)) ≡ refuse why → lex (decode (drop at s)) ≡ refuse why
-    token-never l why g = goes 0 l ∙ outer-bracket _ _ ∙ g
+    pub token-never : k ≡ citeKind → (why : Refusal) → scanIn (at + w) [] (decode (drop (at + w) s)) ≡ halt why → scan at (decode (drop at s)) ≡ halt why
+    token-never l why g = goes 0 l ∙ scan-bracket _ _ _ ∙ g
 
     pub token-cite : k ≡ citeKind → (end : ℕ) → Closing s (at + w) end → Cites s at (at + w) end
     token-cite l end g =
-        record { later = step-ahead .later; order = g .order; ahead = g .ahead; goes = goes 0 l ∙ outer-bracket _ _ ∙ g .goes }
+        record { later = step-ahead .later; order = g .order; ahead = g .ahead; goes = goes 0 l ∙ scan-bracket _ _ _ ∙ g .goes }

@@ -1,19 +1,20 @@
 -- What the answers of `lex`, `first_word` and `join_words` tell a reader. Assumes nothing.
-use Prim.Native.Nat.{ℕ, suc, _+_, _-_, _≤_}
-use mathlib.Core.Path.{_≡_, refl, sym, ap, _∙_, subst}
+use Prim.Native.Nat.{ℕ, _-_, _≤_}
+use mathlib.Core.Path.{_≡_, refl, sym, ap, _∙_}
 use mathlib.Core.Bool.{Bool, true, false, cond}
 use mathlib.Core.Logic.{inl}
 use mathlib.Core.List.{List, [], _∷_, _++_}
 use native.Mathlib.Omega.{arith}
 use lib.Dec.{eqb}
-use lib.ListN.{length, take, drop, length-append, length-take}
-use lib.Seq.{take-all}
+use lib.ListN.{length, take, drop, length-append}
+use lib.Seq.{take-all, take-at}
 use borrow.Author.Tests.{ne-eqb}
 use Rattle.refusal.specs.Result.{Result, ok, refused, refuse, unless-ok, refused≢ok, map-ok, then}
 use Rattle.refusal.specs.declared.Refusal.{Refusal}
 use Rattle.refusal.specs.declared.Refusal.the-variants.{NoStatusWord, Empty, TooManyCitations, TooDeep}
 use Rattle.utf8.specs.Utf8.{isUtf8, decode, encode}
 use Rattle.utf8.specs.White.{isWhite}
+use Rattle.utf8.specs.Limits.{textLimit}
 use Rattle.utf8.proofs.Sound.{utf8-sound}
 use Rattle.utf8.proofs.Encode.{encoded}
 use Rattle.status.specs.declared.StatusKind.{StatusKind}
@@ -24,17 +25,15 @@ use Rattle.grammar.specs.Reading.{citationLimit, openLimit, someToken, few, sha
 use Rattle.grammar.specs.Status.{ended, wordsFrom, words, spaced, joined, alone, stated, afterWord, ofWords}
 use Rattle.grammar.specs.StatusLaws.{rest-size, rest-scalars}
 use Rattle.lexer.specs.Runs.{leading, trailing, runEnd, firstWord}
-use Rattle.lexer.specs.Tokens.{kindsOf, counted, lexedSaid, limited, tokenized, tokensOf, cuts}
+use Rattle.lexer.specs.Tokens.{kindsOf, counted, lexedSaid, limited, tokenized, cuts}
+use Rattle.lexer.specs.Scan.{scanned, placesIn, over, scan-lex, scanned-all}
+use Rattle.lexer.specs.State.{reading}
 use Rattle.lexer.specs.declared.Lexed.the-variants.{Tokens, Refused}
 use Rattle.lexer.proofs.Split.{encode-append, size-cons, char-size}
 use Rattle.lexer.proofs.Runs.{trail-stop, run-starts}
-use Rattle.lexer.proofs.Turns.{Answers}
+use Rattle.lexer.proofs.Scans.{places-count, places-cut}
+use Rattle.lexer.proofs.Turns.{Answers, kinds-length}
 use Rattle.lexer.proofs.Joining.{words-none, words-white, word-split, run-passed}
-
-kinds-length : (ts : List Tok) → length (kindsOf ts) ≡ length ts
-unfolding kindsOf
-kinds-length [] = refl
-kinds-length (t ∷ ts) = ap suc (kinds-length ts)
 
 -- citations are tokens
 pub texts-fewer : (ts : List Tok) → length (texts ts) ≤ length ts
@@ -104,17 +103,22 @@ unfolding map-ok
 behind (ok ts) n m b e = let x = ap countsIn e in record { toks = ts; is = refl; tokens = ap (λ (y : ℕ × ℕ × ℕ). y .0) x; cites = ap (λ (y : ℕ × ℕ × ℕ). y .1) x; bytes = ap (λ (y : ℕ × ℕ × ℕ). y .2) x }
 behind (refused k) n m b e = absurd (refused≢ok (sym e))
 
-pub told : (s kinds places : List ℕ) (n m b : ℕ) → (m ≤ citationLimit → m ≤ n → m ≤ length places) → Answers s kinds places (tokenized (decode s)) (Tokens n m b) → Told s kinds places n m b
-told s kinds places n m b l a =
+pub told : (s kinds₀ places₀ kinds places : List ℕ) (n m b : ℕ) → isUtf8 s ≡ true → length s ≤ textLimit → length places ≡ length places₀ → (m ≤ citationLimit → m ≤ length kinds → m ≤ length places)
+    → Answers s kinds₀ places₀ kinds places (Tokens n m b) → Told s kinds places n m b
+told s kinds₀ places₀ kinds places n m b u short same l a =
     let c = behind (tokenized (decode s)) n m b (a .0) in
     let ts = c .toks in
     let r = ready (decode s) ts (c .is) in
     let f = few-says (texts ts) (r .limited) in
-    let shown : take n kinds ≡ kindsOf ts =
-    ap (λ (k : ℕ). take k kinds) (c .tokens)
-    ∙ subst (λ (x : Result (List Tok)). take (length (tokensOf x)) kinds ≡ kindsOf (tokensOf x)) (c .is) (a .1 .0) in
+    let met : scanned (reading s) ≡ ts = scanned-all (reading s) ts (scan-lex 0 (decode s) ∙ r .lexed) in
+    let front : kinds ≡ over (kindsOf ts) kinds₀ = a .1 .0 ∙ ap (λ x. over (kindsOf x) kinds₀) met in
+    let size : length (kindsOf ts) ≡ n = kinds-length ts ∙ sym (c .tokens) in
+    let room : n ≤ length kinds = omega (arith, size, ap length front, length-append (kindsOf ts) (drop (length (kindsOf ts)) kinds₀)) in
     let fewer : m ≤ n = omega (arith, c .tokens, c .cites, texts-fewer ts) in
     let most : m ≤ citationLimit = omega (arith, c .cites, f .0) in
+    let spots : length (placesIn (reading s)) ≡ m = places-count (reading s) ∙ ap (λ x. length (texts x)) met ∙ sym (c .cites) in
+    let all : take (length places₀) (placesIn (reading s)) ≡ placesIn (reading s) = take-all (length places₀) (placesIn (reading s)) (omega (arith, spots, same, l most (omega arith))) in
+    let sited : places ≡ over (placesIn (reading s)) places₀ = a .1 .1 ∙ ap (λ x. over x places₀) all in
     record {
       toks = ts;
       is = c .is;
@@ -122,14 +126,15 @@ told s kinds places n m b l a =
       tokens = c .tokens;
       cites = c .cites;
       bytes = c .bytes;
-      room = omega (arith, simp length-take at (ap length shown), kinds-length ts, c .tokens);
+      room = room;
       fewer = fewer;
       most = most;
-      shown = shown;
+      shown = ap (take n) front ∙ take-at (kindsOf ts) _ n size;
       held =
-          ap (λ (k : ℕ). cuts s (take k places)) (c .cites)
-          ∙ subst (λ (x : Result (List Tok)). cuts s (take (length (texts (tokensOf x))) places) ≡ take (length places) (texts (tokensOf x))) (c .is) (a .1 .1)
-          ∙ take-all (length places) (texts ts) (omega (arith, l most fewer, c .cites));
+          ap (λ x. cuts s (take m x)) sited
+          ∙ ap (cuts s) (take-at (placesIn (reading s)) _ m spots)
+          ∙ places-cut s (decode s) (omega arith) (utf8-sound s u .1)
+          ∙ ap texts met;
     }
 
 -- what a refusal tells

@@ -1,4 +1,5 @@
 pub mod Runs
 pub mod Tokens
+pub mod Scan
 pub mod State
 pub mod Rebuilt

@@ -4,7 +4,7 @@ use mathlib.Core.Bool.{cond, _&&_}
 use mathlib.Core.List.{List, [], _∷_}
 use lib.Dec.{eqb, leb, ltb}
 use lib.ListN.{length, take, drop}
-use Rattle.refusal.specs.Result.{Result, ok, refused, refuse, unless, then}
+use Rattle.refusal.specs.Result.{Result, ok, refuse, unless, then}
 use Rattle.refusal.specs.declared.Refusal.the-variants.{Empty, TooManyCitations, TooDeep}
 use Rattle.grammar.specs.Expr.{concat}
 use Rattle.grammar.specs.Lex.{Tok, cited, op, opening, closing, Part, bracket, sign, left, right, space, stray, lex, texts}
@@ -68,11 +68,6 @@ limited ts = unless (someToken ts) Empty (unless (few (texts ts)) TooManyCitatio
 -- the tokens of characters, ready to be parsed: the leftmost of 1, 2, 3 first
 unfoldable pub tokenized : List ℕ → Result (List Tok)
 tokenized cs = then (lex cs) limited
-
--- the tokens of an answer; none of a refusal
-abbrev pub tokensOf : Result (List Tok) → List Tok
-tokensOf (ok ts) = ts
-tokensOf (refused k) = []
 
 -- the tests 6, 12, 13 on counts
 unfoldable pub countsLimited : Count → Result (ℕ × ℕ × ℕ)

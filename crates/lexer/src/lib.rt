@@ -12,11 +12,12 @@ ghost use Rattle.refusal.specs.Result.{map-ok};
 ghost use Rattle.laws.specs.Tests.{agree};
 ghost use Rattle.utf8.specs.Utf8.{isUtf8, decode, encode};
 ghost use Rattle.utf8.specs.Limits.{textLimit};
-ghost use Rattle.grammar.specs.Lex.{citeEnd, part, texts};
+ghost use Rattle.grammar.specs.Lex.{citeEnd, part};
 ghost use Rattle.grammar.specs.Status.{words, joined};
 ghost use Rattle.fields.specs.Appended.{Appended};
 ghost use Rattle.lexer.specs.Runs.{runEnd, upTo, firstWord, gap};
-ghost use Rattle.lexer.specs.Tokens.{kindsOf, partNumber, deeper, counted, lexedSaid, tokenized, tokensOf, countsLimited, placed, startOf, sizeOf, cuts};
+ghost use Rattle.lexer.specs.Tokens.{kindsOf, partNumber, deeper, counted, lexedSaid, tokenized, countsLimited, placed, startOf, sizeOf};
+ghost use Rattle.lexer.specs.Scan.{scan, scanned, placesIn, over};
 ghost use Rattle.lexer.specs.State.{Closes, Begins, State, Turned, Ends};
 
 // The kinds of tokens; a citation and the operators have those of their node rows.
@@ -308,7 +309,7 @@ fn store(places: &mut [u32], m: usize, place: u32)
 // One token, or white space.
 fn read_token(text: &[u8], kinds: &mut [u8], places: &mut [u32], p: Count) -> Turn
     requires { ⌜ (length (now text) ≤ textLimit) × (length (now text) ≤ length (now kinds)) × (p .at < length (now text)) × State (now text) (now kinds) (now places) p ⌝ }
-    ensures { λ r. ⌜ Turned (now (text .entry)) (now (kinds .exit)) (now (places .exit)) (p .at) r ⌝ }
+    ensures { λ r. ⌜ Turned (now (text .entry)) (now (kinds .entry)) (now (places .entry)) (now (kinds .exit)) (now (places .exit)) p r ⌝ }
 {
     let n = p.tokens;
     let m = p.cites;
@@ -348,7 +349,7 @@ fn read_token(text: &[u8], kinds: &mut [u8], places: &mut [u32], p: Count) -> Tu
 // The tokens of a whole text, or the leftmost refusal.
 fn lex_all(text: &[u8], kinds: &mut [u8], places: &mut [u32]) -> Turn
     requires { ⌜ (length (now text) ≤ textLimit) × (length (now text) ≤ length (now kinds)) × (isUtf8 (now text) ≡ true) ⌝ }
-    ensures { λ r. ⌜ Ends (now (text .entry)) (now (kinds .exit)) (now (places .exit)) r ⌝ }
+    ensures { λ r. ⌜ Ends (now (text .entry)) (now (kinds .entry)) (now (places .entry)) (now (kinds .exit)) (now (places .exit)) r ⌝ }
 {
     let mut p = Count {
         at: 0,
@@ -393,12 +394,12 @@ fn limited(p: Count) -> Lexed
     }
 }
 
-// The tokens of a text: the kind of each in `kinds`, the places of the citations' texts in `places`, as many as have room there.
+// The tokens of a text, those in front of the leftmost refusal if there is one: the kind of each in `kinds`, the places of the citations' texts in `places`, as many as have room there.
 pub fn lex(text: &[u8], kinds: &mut [u8], places: &mut [u32]) -> Lexed
     requires { ⌜ (length (now text) ≤ textLimit) × (length (now text) ≤ length (now kinds)) × (isUtf8 (now text) ≡ true) ⌝ }
     ensures { λ r. ⌜ lexedSaid r ≡ map-ok counted (tokenized (decode (now (text .entry)))) ⌝ }
-    ensures { λ _. ⌜ take (length (tokensOf (tokenized (decode (now (text .entry)))))) (now (kinds .exit)) ≡ kindsOf (tokensOf (tokenized (decode (now (text .entry))))) ⌝ }
-    ensures { λ _. ⌜ cuts (now (text .entry)) (take (length (texts (tokensOf (tokenized (decode (now (text .entry))))))) (now (places .exit))) ≡ take (length (now (places .exit))) (texts (tokensOf (tokenized (decode (now (text .entry)))))) ⌝ }
+    ensures { λ _. ⌜ now (kinds .exit) ≡ over (kindsOf (scanned (scan 0 (decode (now (text .entry)))))) (now (kinds .entry)) ⌝ }
+    ensures { λ _. ⌜ now (places .exit) ≡ over (take (length (now (places .entry))) (placesIn (scan 0 (decode (now (text .entry)))))) (now (places .entry)) ⌝ }
 {
     match lex_all(text, kinds, places) {
         Turn::Off(why) => Lexed::Refused(why),

@@ -1,13 +1,13 @@
 -- What `parse_tokens` answers and writes. Assumes nothing.
 use mathlib.Core.Bool.{cond}
-use mathlib.Core.List.{List, [], _∷_, _++_, map}
+use mathlib.Core.List.{List, [], _∷_, map}
 use Prim.Native.Nat.{ℕ, suc}
 use lib.Dec.{eqb}
-use lib.ListN.{length, drop}
 use Rattle.refusal.specs.Result.{Result, ok, refused, refuse}
 use Rattle.grammar.specs.Expr.{Expr}
 use Rattle.grammar.specs.Parse.{parse}
 use Rattle.grammar.specs.Rows.{citeKind, rows}
+use Rattle.lexer.specs.Scan.{over}
 use Rattle.parser.specs.Packed.{packed}
 use Rattle.parser.specs.Tokens.{tok}
 use Rattle.parser.specs.declared.Parsed.{Parsed}
@@ -34,4 +34,4 @@ parsedKinds kinds = parse (map tok kinds)
 
 -- the rows of what was parsed, and behind them what stood there; on a refusal all that stood there
 abbrev pub rowsOver : Result Expr → List ℕ → List ℕ
-rowsOver r old = rowsIn r ++ drop (length (rowsIn r)) old
+rowsOver r old = over (rowsIn r) old

@@ -1,8 +1,8 @@
 -- From the answers of the lexer and the parser to the tree of a text. Assumes nothing.
 use mathlib.Core.Path.{_≡_, refl, sym, ap, _∙_, subst}
 use mathlib.Core.Bool.{true}
-use mathlib.Core.List.{List, [], _∷_, _++_}
-use Prim.Native.Nat.{ℕ, suc, _+_, _*_, _≤_}
+use mathlib.Core.List.{List, _++_}
+use Prim.Native.Nat.{ℕ, _+_, _*_, _≤_}
 use native.Mathlib.Omega.{arith}
 use lib.ListN.{length, take, drop, length-take}
 use lib.Seq.{take-at}
@@ -12,12 +12,12 @@ use Rattle.utf8.specs.Utf8.{isUtf8, decode}
 use Rattle.utf8.specs.Limits.{textLimit}
 use Rattle.utf8.proofs.Sound.{utf8-sound}
 use Rattle.grammar.specs.Expr.{Expr, concat, citations}
-use Rattle.grammar.specs.Lex.{Tok, texts}
+use Rattle.grammar.specs.Lex.{texts}
 use Rattle.grammar.specs.Rows.{rows, span, rows-span}
 use Rattle.grammar.specs.Parse.{parse}
 use Rattle.grammar.specs.Cites.{parse-cites}
 use Rattle.grammar.specs.Reading.{citationLimit, expression, expression-given}
-use Rattle.lexer.specs.Tokens.{kindsOf, counted, lexedSaid, tokenized, tokensOf}
+use Rattle.lexer.specs.Tokens.{counted, lexedSaid, tokenized}
 use Rattle.lexer.specs.declared.Lexed.{Lexed}
 use Rattle.lexer.specs.declared.Lexed.the-variants as lex
 use Rattle.lexer.proofs.Turns as turns
@@ -31,20 +31,6 @@ use Rattle.parser.proofs.Bare.{said-by-kinds, rows-by-kinds, cites-of-kinds}
 use Rattle.parser.proofs.Orders.{packed-length}
 use Rattle.reader.specs.Made.{Room, Stands}
 
-kinds-length : (ts : List Tok) → length (kindsOf ts) ≡ length ts
-unfolding kindsOf
-kinds-length [] = refl
-kinds-length (t ∷ ts) = ap suc (kinds-length ts)
-
-abbrev firstOf : Result (ℕ × ℕ × ℕ) → ℕ
-firstOf (ok x) = x .0
-firstOf (refused k) = 0
-
-tokens-room : (kinds : List ℕ) (x : Result (List Tok)) (n m b : ℕ) → ok (n, m, b) ≡ map-ok counted x → take (length (tokensOf x)) kinds ≡ kindsOf (tokensOf x) → n ≤ length kinds
-unfolding map-ok
-tokens-room kinds (ok ts) n m b e h = let q : n ≡ length ts = ap firstOf e in omega (arith, q, simp length-take at (ap length h), kinds-length ts)
-tokens-room kinds (refused k) n m b e h = absurd (refused≢ok (sym e))
-
 -- the text has no tokens
 pub not-lexed : (s : List ℕ) (o : Lexed) (why : Refusal) → o ≡ lex.Refused why → lexedSaid o ≡ map-ok counted (tokenized (decode s)) → expression (decode s) ≡ refuse why
 unfolding then
@@ -54,11 +40,10 @@ not-lexed s o why e a =
 
 module _ (s kinds places : List ℕ) (k p w r : ℕ) (room : Room (length s) k p w r) (isk : length kinds ≡ k) (isp : length places ≡ p) (n m b : ℕ) where
   -- what `lex` told
-  pub told-counts : (o : Lexed) → o ≡ lex.Tokens n m b → turns.Answers s kinds places (tokenized (decode s)) o → Told s kinds places n m b
-  told-counts o e a =
-      let q = subst (turns.Answers s kinds places (tokenized (decode s))) e a in
-      let l = tokens-room kinds (tokenized (decode s)) n m b (q .0) (q .1 .0) in
-      told s kinds places n m b (λ x y. let z = room .cites m x (omega arith) in omega arith) q
+  pub told-counts : isUtf8 s ≡ true → (kinds₀ places₀ : List ℕ) → length places ≡ length places₀ → (o : Lexed) → o ≡ lex.Tokens n m b → turns.Answers s kinds₀ places₀ kinds places o → Told s kinds places n m b
+  told-counts u kinds₀ places₀ same o e a =
+      told s kinds₀ places₀ kinds places n m b u (omega (arith, room .tokens, room .short)) same (λ x y. let z = room .cites m x (omega arith) in omega arith)
+      (subst (turns.Answers s kinds₀ places₀ kinds places) e a)
 
   module _ (t : Told s kinds places n m b) where
     cites-are : citesIn (take n kinds) ≡ m
