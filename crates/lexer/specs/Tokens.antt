@@ -1,10 +1,13 @@
 -- What the lexer answers and writes: counts, kinds of tokens, places of citations. Assumes nothing.
 use Prim.Native.Nat.{ℕ, suc, pred, _+_, _*_, _/_, _%_}
+use mathlib.Core.Path.{refl, ap}
+use mathlib.Mathlib.Logic.Function.Defs.{Injective}
 use mathlib.Core.Bool.{cond, _&&_}
 use mathlib.Core.List.{List, [], _∷_}
 use lib.Dec.{eqb, leb, ltb}
 use lib.ListN.{length, take, drop}
-use Rattle.refusal.specs.Result.{Result, ok, refuse, unless, then}
+use Rattle.refusal.specs.Refusals.{number-back}
+use Rattle.refusal.specs.Result.{Result, ok, refuse, unless, then, said-injective}
 use Rattle.refusal.specs.declared.Refusal.the-variants.{Empty, TooManyCitations, TooDeep}
 use Rattle.grammar.specs.Expr.{concat}
 use Rattle.grammar.specs.Lex.{Tok, cited, op, opening, closing, Part, bracket, sign, left, right, space, stray, lex, texts}
@@ -60,6 +63,11 @@ counted ts = (length ts, length (texts ts), length (concat (texts ts)))
 abbrev pub lexedSaid : Lexed → Result (ℕ × ℕ × ℕ)
 lexedSaid (Tokens n m b) = ok (n, m, b)
 lexedSaid (Refused why) = refuse why
+
+-- what is said determines the answer
+pub lexed-said-injective : Injective lexedSaid
+lexed-said-injective =
+    said-injective (λ (x : ℕ × ℕ × ℕ). Tokens (x .0) (x .1) (x .2)) Refused lexedSaid λ a. elim a [ Tokens n m b ↦ refl | Refused why ↦ ap Refused (number-back why) ]
 
 -- tokens that pass the tests before parsing: 6, 12, 13
 unfoldable pub limited : List Tok → Result (List Tok)

@@ -1,9 +1,12 @@
 -- What `parse_tokens` answers and writes. Assumes nothing.
+use mathlib.Core.Path.{refl, ap}
+use mathlib.Mathlib.Logic.Function.Defs.{Injective}
 use mathlib.Core.Bool.{cond}
 use mathlib.Core.List.{List, [], _∷_, map}
 use Prim.Native.Nat.{ℕ, suc}
 use lib.Dec.{eqb}
-use Rattle.refusal.specs.Result.{Result, ok, refused, refuse}
+use Rattle.refusal.specs.Refusals.{number-back}
+use Rattle.refusal.specs.Result.{Result, ok, refused, refuse, said-injective}
 use Rattle.grammar.specs.Expr.{Expr}
 use Rattle.grammar.specs.Parse.{parse}
 use Rattle.grammar.specs.Rows.{citeKind, rows}
@@ -22,6 +25,10 @@ citesIn (k ∷ ks) = cond (eqb k citeKind) (suc (citesIn ks)) (citesIn ks)
 abbrev pub parsedSaid : Parsed → Result ℕ
 parsedSaid (Rows n) = ok n
 parsedSaid (Refused why) = refuse why
+
+-- what is said determines the answer
+pub parsed-said-injective : Injective parsedSaid
+parsed-said-injective = said-injective Rows Refused parsedSaid λ a. elim a [ Rows n ↦ refl | Refused why ↦ ap Refused (number-back why) ]
 
 -- the rows of what was parsed, as numbers; none of a refusal
 abbrev pub rowsIn : Result Expr → List ℕ
