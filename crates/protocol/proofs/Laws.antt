@@ -1,69 +1,71 @@
--- Laws of hex, as a loop over one byte a turn uses them. Assumes nothing.
+-- Laws of hex, as loops over one byte or pair a turn use them. Assumes nothing.
 use Prim.Native.Nat.{ℕ, suc, _+_, _*_, _/_, _%_, _≤_, _<_}
-use mathlib.Core.Path.{_≡_, refl, sym, ap, _∙_}
-use mathlib.Core.Bool.{cond, and-false}
-use mathlib.Core.List.{List, [], _∷_, _++_, append-assoc, append-nil}
+use mathlib.Core.Path.{_≡_, refl, sym, ap, ap₂, _∙_}
+use mathlib.Core.Bool.{true, false, cond, and-false}
+use mathlib.Core.List.{List, [], _∷_, _++_, append-assoc}
 use native.Mathlib.Omega.{arith}
 use native.Mathlib.Numerals.{add-one}
-use lib.ListN.{length, getD, take, drop, drop-of-length-le}
-use lib.Seq.{drop-cons, take-suc}
-use lib.Dec.{ltb}
-use borrow.Author.Tests.{lt-ltb, le-ltb}
-use Rattle.protocol.specs.Hex.{Decoded, bytes, noBytes, digitOf, digitValue, hexOf, fieldOf, led, isPair, pairs}
+use lib.ListN.{length, getD, take, drop, set, length-drop, take-append-drop}
+use lib.Seq.{drop-cons, take-suc, take-suc-set, length-take-le}
+use lib.Dec.{ltb, eqb}
+use borrow.Author.Tests.{lt-ltb, le-ltb, eq-eqb, ne-eqb}
+use Rattle.text.specs.Bytes.{same}
+use Rattle.protocol.specs.Hex.{digitOf, digitValue, hexOf, fieldOf, isPair, pairs, filled, front}
 
--- bytes before others
-abbrev pub ledBy : List ℕ → Decoded → Decoded
-ledBy xs (bytes s) = bytes (xs ++ s)
-ledBy xs noBytes = noBytes
+module _ (f : List ℕ) (i : ℕ) (h : i + 1 < length f) where
+  abbrev pub byte : ℕ
+  byte = digitValue (getD f i 0) * 16 + digitValue (getD f (i + 1) 0)
 
--- nothing before others
-pub led-none : (d : Decoded) → ledBy [] d ≡ d
-led-none (bytes s) = refl
-led-none noBytes = refl
-
-led-more : (xs : List ℕ) (b : ℕ) (d : Decoded) → ledBy (xs ++ (b ∷ [])) d ≡ ledBy xs (led b d)
-led-more xs b (bytes s) = ap bytes (append-assoc xs (b ∷ []) s)
-led-more xs b noBytes = refl
-
-more : (i : ℕ) → suc (i + 1) ≡ i + 2
-more i = omega arith
-
-module _ (f : List ℕ) (i : ℕ) where
-  two : i + 1 < length f → drop i f ≡ getD f i 0 ∷ getD f (i + 1) 0 ∷ drop (i + 2) f
-  two h =
+  two : drop i f ≡ getD f i 0 ∷ getD f (i + 1) 0 ∷ drop (i + 2) f
+  two =
       drop-cons f i 0 (omega arith) ∙ ap (λ (l : List ℕ). getD f i 0 ∷ l) (ap (λ (k : ℕ). drop k f) (sym (add-one i)) ∙ drop-cons f (i + 1) 0 h ∙ ap (λ (k : ℕ). getD f (i + 1) 0 ∷ drop k f) (more i))
+    where
+      more : (i : ℕ) → suc (i + 1) ≡ i + 2
+      more i = omega arith
 
-  step : i + 1 < length f → pairs (drop i f) ≡ cond (isPair (getD f i 0) (getD f (i + 1) 0)) (led (digitValue (getD f i 0) * 16 + digitValue (getD f (i + 1) 0)) (pairs (drop (i + 2) f))) noBytes
+  step : pairs (drop i f) ≡ cond (isPair (getD f i 0) (getD f (i + 1) 0)) (byte ∷ pairs (drop (i + 2) f)) []
   unfolding pairs
-  step h = ap pairs (two h)
+  step = ap pairs two
 
-  at-pair : i + 1 < length f → digitValue (getD f i 0) < 16 → digitValue (getD f (i + 1) 0) < 16 → pairs (drop i f) ≡ led (digitValue (getD f i 0) * 16 + digitValue (getD f (i + 1) 0)) (pairs (drop (i + 2) f))
-  at-pair h p q = step h ∙ rw (lt-ltb _ _ p, lt-ltb _ _ q)
+  -- a pair is read, and its byte put
+  pub pairs-put : (out : List ℕ) (n b : ℕ) → n < length out → b ≡ byte → digitValue (getD f i 0) < 16 → digitValue (getD f (i + 1) 0) < 16 → take (n + 1) (set out n b) ++ pairs (drop (i + 2) f) ≡ take n out ++ pairs (drop i f)
+  pairs-put out n b k e p q =
+      ap (λ (xs : List ℕ). xs ++ pairs (drop (i + 2) f)) (ap (λ (m : ℕ). take m (set out n b)) (add-one n) ∙ take-suc-set out n b k ∙ ap (λ (m : ℕ). take n out ++ (m ∷ [])) e)
+      ∙ append-assoc (take n out) (byte ∷ []) (pairs (drop (i + 2) f))
+      ∙ ap (λ (l : List ℕ). take n out ++ l) (sym (step ∙ rw (lt-ltb _ _ p, lt-ltb _ _ q)))
 
-  no-first : i + 1 < length f → 16 ≤ digitValue (getD f i 0) → pairs (drop i f) ≡ noBytes
-  no-first h p = step h ∙ rw (le-ltb _ _ p)
+  pub pairs-no-first : 16 ≤ digitValue (getD f i 0) → pairs (drop i f) ≡ []
+  pairs-no-first p = step ∙ rw (le-ltb _ _ p)
 
-  no-second : i + 1 < length f → 16 ≤ digitValue (getD f (i + 1) 0) → pairs (drop i f) ≡ noBytes
-  no-second h p = step h ∙ rw (le-ltb _ _ p, and-false (ltb (digitValue (getD f i 0)) 16))
+  pub pairs-no-second : 16 ≤ digitValue (getD f (i + 1) 0) → pairs (drop i f) ≡ []
+  pairs-no-second p = step ∙ rw (le-ltb _ _ p, and-false (ltb (digitValue (getD f i 0)) 16))
 
-  -- a pair is read
-  pub pairs-next : (xs : List ℕ) → i + 1 < length f → digitValue (getD f i 0) < 16 → digitValue (getD f (i + 1) 0) < 16 → ledBy (xs ++ ((digitValue (getD f i 0) * 16 + digitValue (getD f (i + 1) 0)) ∷ [])) (pairs (drop (i + 2) f)) ≡ ledBy xs (pairs (drop i f))
-  pairs-next xs h p q = led-more xs (digitValue (getD f i 0) * 16 + digitValue (getD f (i + 1) 0)) (pairs (drop (i + 2) f)) ∙ ap (ledBy xs) (sym (at-pair h p q))
+-- less than two bytes are left
+pub pairs-end : (f : List ℕ) (i : ℕ) → length f ≤ i + 1 → pairs (drop i f) ≡ []
+unfolding pairs
+pairs-end f i h = go (drop i f) (omega (arith, length-drop i f))
+  where
+    go : (s : List ℕ) → length s ≤ 1 → pairs s ≡ []
+    go [] k = refl
+    go (a ∷ []) k = refl
+    go (a ∷ b ∷ s) k = absurd (omega arith)
 
-  pub pairs-no-first : (xs : List ℕ) → i + 1 < length f → 16 ≤ digitValue (getD f i 0) → noBytes ≡ ledBy xs (pairs (drop i f))
-  pairs-no-first xs h p = ap (ledBy xs) (sym (no-first h p))
+-- what a buffer holds where its first bytes are a byte string and the others stayed
+pub front-is : (new old s : List ℕ) (n : ℕ) → n ≤ length new → take n new ≡ s → drop n new ≡ drop n old → (n ≡ length s) × (new ≡ front s old)
+front-is new old s n h e d =
+    let l : n ≡ length s = sym (length-take-le n new h) ∙ ap length e in
+    (l, sym (take-append-drop n new) ∙ ap₂ _++_ e (d ∙ ap (λ (k : ℕ). drop k old) l))
 
-  pub pairs-no-second : (xs : List ℕ) → i + 1 < length f → 16 ≤ digitValue (getD f (i + 1) 0) → noBytes ≡ ledBy xs (pairs (drop i f))
-  pairs-no-second xs h p = ap (ledBy xs) (sym (no-second h p))
+-- what is said of a field, one law for each way that the code takes
+module _ (f : List ℕ) (n : ℕ) where
+  pub said-dash : same (45 ∷ []) f ≡ true → n ≡ length (pairs f) → record { good = true; len = n } ≡ filled f
+  said-dash e k = rw (e, k)
 
-  -- one byte is left over
-  pub pairs-odd : (xs : List ℕ) → i < length f → length f ≤ i + 1 → noBytes ≡ ledBy xs (pairs (drop i f))
-  unfolding pairs
-  pairs-odd xs h k = ap (ledBy xs) (sym (ap pairs (drop-cons f i 0 h ∙ ap (λ (l : List ℕ). getD f i 0 ∷ l) (drop-of-length-le f {i = suc i} (omega arith)))))
+  pub said-empty : same (45 ∷ []) f ≡ false → length f ≡ 0 → n ≡ length (pairs f) → record { good = false; len = n } ≡ filled f
+  said-empty e h k = rw (e, eq-eqb (length f) 0 h, k)
 
-  pub pairs-end : (xs : List ℕ) → length f ≤ i → bytes xs ≡ ledBy xs (pairs (drop i f))
-  unfolding pairs
-  pairs-end xs h = sym (ap (λ (l : List ℕ). ledBy xs (pairs l)) (drop-of-length-le f h) ∙ ap bytes (append-nil xs))
+  pub said-pairs : same (45 ∷ []) f ≡ false → (length f ≡ 0 → ⊥) → n ≡ length (pairs f) → record { good = eqb (2 * n) (length f); len = n } ≡ filled f
+  said-pairs e h k = rw (e, ne-eqb (length f) 0 h, k)
 
 pub length-hex : (s : List ℕ) → length (hexOf s) ≡ 2 * length s
 unfolding hexOf

@@ -1,3 +1,3 @@
 pub mod Laws
-pub mod Lines
+pub mod Pieces
 pub mod Round

@@ -1,5 +1,5 @@
 -- What is written as a field is read back, and a field that is read is the one that is written. Assumes nothing.
-use Prim.Native.Nat.{ℕ, _+_, _-_, _*_, _/_, _%_, _≤_, _<_}
+use Prim.Native.Nat.{ℕ, suc, _+_, _-_, _*_, _/_, _%_, _≤_, _<_}
 use mathlib.Core.Path.{_≡_, refl, sym, ap, ap₂, _∙_}
 use mathlib.Core.Bool.{Bool, true, false, cond}
 use mathlib.Core.List.{List, [], _∷_}
@@ -8,12 +8,12 @@ use native.Mathlib.Nat.{div-add-mod'}
 use lib.ListN.{length}
 use lib.Arith.{digits-div, digits-mod}
 use lib.Dec.{ltb, eqb}
-use borrow.Author.Tests.{lt-ltb, le-ltb, ltb-true, ltb-false, ne-eqb, eqb-false}
+use borrow.Author.Tests.{lt-ltb, le-ltb, ltb-true, ltb-false, eq-eqb, ne-eqb, eqb-true, eqb-false}
 use Rattle.laws.specs.Tests.{and-both}
 use Rattle.text.specs.Bytes.{all, same}
 use Rattle.text.proofs.Laws.{same-equal}
 use Rattle.protocol.proofs.Laws.{length-hex}
-use Rattle.protocol.specs.Hex.{Decoded, bytes, noBytes, digitOf, digitValue, hexOf, fieldOf, led, isPair, pairs, fieldBytes}
+use Rattle.protocol.specs.Hex.{digitOf, digitValue, hexOf, fieldOf, isPair, pairs, isField}
 
 -- a byte
 abbrev pub isByte : ℕ → Bool
@@ -48,58 +48,54 @@ digit-only b h = go (ltb b 48) refl (ltb b 58) refl (ltb b 97) refl (ltb b 103) 
 high-half : (b : ℕ) → b < 256 → b / 16 < 16
 high-half b h = omega arith
 
-pairs-back : (s : List ℕ) → all isByte s ≡ true → pairs (hexOf s) ≡ bytes s
+pairs-back : (s : List ℕ) → all isByte s ≡ true → pairs (hexOf s) ≡ s
 unfolding pairs hexOf
 pairs-back [] h = refl
 pairs-back (b ∷ s) h =
     let q = and-both (isByte b) (all isByte s) h in
     let low : b % 16 < 16 = omega arith in
     let high = high-half b (ltb-true b 256 (q .0)) in
-    rw (digit-back (b / 16) high, digit-back (b % 16) low, lt-ltb (b / 16) 16 high, lt-ltb (b % 16) 16 low, pairs-back s (q .1)) (ap (λ (n : ℕ). bytes (n ∷ s)) (div-add-mod' b 16))
+    rw (digit-back (b / 16) high, digit-back (b % 16) low, lt-ltb (b / 16) 16 high, lt-ltb (b % 16) 16 low, pairs-back s (q .1)) (ap (λ (n : ℕ). n ∷ s) (div-add-mod' b 16))
 
 -- two digits and more are more than `-`
-field-hex : (f : List ℕ) → 1 < length f → fieldBytes f ≡ pairs f
-field-hex f h = rw (ne-eqb (length f) 1 (λ e. omega arith), ne-eqb (length f) 0 (λ e. omega arith))
+field-hex : (f : List ℕ) → 1 < length f → 2 * length (pairs f) ≡ length f → isField f ≡ true
+field-hex f h e = rw (ne-eqb (length f) 1 (λ e. omega arith), ne-eqb (length f) 0 (λ e. omega arith), eq-eqb (2 * length (pairs f)) (length f) e)
 
--- what was written is read back
-pub field-back : (s : List ℕ) → all isByte s ≡ true → fieldBytes (fieldOf s) ≡ bytes s
-field-back [] h = refl
-field-back (b ∷ s) h = field-hex (hexOf (b ∷ s)) (omega (arith, length-hex (b ∷ s))) ∙ pairs-back (b ∷ s) h
+-- what was written is a field, and read back
+pub field-back : (s : List ℕ) → all isByte s ≡ true → (isField (fieldOf s) ≡ true) × (pairs (fieldOf s) ≡ s)
+unfolding pairs
+field-back [] h = (refl, refl)
+field-back (b ∷ s) h =
+    let e = pairs-back (b ∷ s) h in
+    let l = length-hex (b ∷ s) in
+    (field-hex (hexOf (b ∷ s)) (omega arith) (ap (λ (x : List ℕ). 2 * length x) e ∙ sym l), e)
 
-abbrev held : Decoded → List ℕ
-held (bytes s) = s
-held noBytes = []
-
-none≢bytes : {s : List ℕ} → noBytes ≡ bytes s → ⊥
-none≢bytes e = let z : _≡_ {A = ℕ} 0 1 = cc in omega arith
-
-pairs-only : (f s : List ℕ) → pairs f ≡ bytes s → hexOf s ≡ f
+-- pairs up to the end are those that are written for their bytes
+pairs-only : (f : List ℕ) → 2 * length (pairs f) ≡ length f → hexOf (pairs f) ≡ f
 unfolding pairs hexOf
-pairs-only [] s h = ap hexOf (sym (ap held h))
-pairs-only (a ∷ []) s h = absurd (none≢bytes h)
-pairs-only (a ∷ b ∷ f) s h = go (isPair a b) refl (pairs f) refl (pairs-only f) h
+pairs-only [] h = refl
+pairs-only (a ∷ []) h = absurd (omega arith)
+pairs-only (a ∷ b ∷ f) h = go (isPair a b) refl (pairs-only f) h
   where
-    go : (t : Bool) → isPair a b ≡ t → (d : Decoded) → pairs f ≡ d → ((r : List ℕ) → pairs f ≡ bytes r → hexOf r ≡ f) → cond t (led (digitValue a * 16 + digitValue b) d) noBytes ≡ bytes s → hexOf s ≡ a ∷ b ∷ f
-    go false e d k ih h = absurd (none≢bytes h)
-    go true e noBytes k ih h = absurd (none≢bytes h)
-    go true e (bytes r) k ih h =
+    go : (t : Bool) → isPair a b ≡ t → (2 * length (pairs f) ≡ length f → hexOf (pairs f) ≡ f) → 2 * length (cond t ((digitValue a * 16 + digitValue b) ∷ pairs f) []) ≡ suc (suc (length f)) → hexOf (cond t ((digitValue a * 16 + digitValue b) ∷ pairs f) []) ≡ a ∷ b ∷ f
+    go false e ih h = absurd (omega arith)
+    go true e ih h =
         let q = and-both (ltb (digitValue a) 16) (ltb (digitValue b) 16) e in
         let x = ltb-true (digitValue a) 16 (q .0) in
         let y = ltb-true (digitValue b) 16 (q .1) in
-        ap hexOf (sym (ap held h))
-        ∙ ap (λ (l : List ℕ). digitOf ((digitValue a * 16 + digitValue b) / 16) ∷ digitOf ((digitValue a * 16 + digitValue b) % 16) ∷ l) (ih r k)
+        ap (λ (l : List ℕ). digitOf ((digitValue a * 16 + digitValue b) / 16) ∷ digitOf ((digitValue a * 16 + digitValue b) % 16) ∷ l) (ih (omega arith))
         ∙ ap₂ (λ (m n : ℕ). m ∷ n ∷ f) (ap digitOf (digits-div (digitValue a) y) ∙ digit-only a x) (ap digitOf (digits-mod (digitValue a) y) ∙ digit-only b y)
 
--- only the field that is written for a byte string is read as it
-pub field-only : (f s : List ℕ) → fieldBytes f ≡ bytes s → fieldOf s ≡ f
-unfolding hexOf
-field-only f s h = go (same (45 ∷ []) f) refl (eqb (length f) 0) refl h
+-- only what is written for a byte string is a field with it
+pub field-only : (f : List ℕ) → isField f ≡ true → fieldOf (pairs f) ≡ f
+unfolding pairs hexOf
+field-only f h = go (same (45 ∷ []) f) refl (eqb (length f) 0) refl h
   where
     some : (s : List ℕ) → hexOf s ≡ f → (length f ≡ 0 → ⊥) → fieldOf s ≡ f
     some [] e n = absurd (n (sym (ap length e)))
     some (b ∷ s) e n = e
 
-    go : (t : Bool) → same (45 ∷ []) f ≡ t → (u : Bool) → eqb (length f) 0 ≡ u → cond t (bytes []) (cond u noBytes (pairs f)) ≡ bytes s → fieldOf s ≡ f
-    go true e u g h = ap fieldOf (sym (ap held h)) ∙ same-equal (45 ∷ []) f e
-    go false e true g h = absurd (none≢bytes h)
-    go false e false g h = some s (pairs-only f s h) (eqb-false (length f) 0 g)
+    go : (t : Bool) → same (45 ∷ []) f ≡ t → (u : Bool) → eqb (length f) 0 ≡ u → cond t true (cond u false (eqb (2 * length (pairs f)) (length f))) ≡ true → fieldOf (pairs f) ≡ f
+    go true e u g h = let d = same-equal (45 ∷ []) f e in ap (λ (l : List ℕ). fieldOf (pairs l)) (sym d) ∙ d
+    go false e true g h = let z : _≡_ {A = ℕ} 0 1 = cc in absurd (omega arith)
+    go false e false g h = some (pairs f) (pairs-only f (eqb-true (2 * length (pairs f)) (length f) h)) (eqb-false (length f) 0 g)

@@ -1,17 +1,13 @@
 -- Byte strings as fields of a line: two lower-case hex digits a byte, `-` for no bytes. Assumes nothing.
-use Prim.Native.Nat.{ℕ, _+_, _-_, _*_, _/_, _%_}
-use mathlib.Core.List.{List, [], _∷_}
-use mathlib.Core.Bool.{Bool, cond, _&&_}
-use lib.ListN.{length, take}
+use Prim.Native.Nat.{ℕ, _+_, _-_, _*_, _/_, _%_, _≤_}
+use mathlib.Core.Path.{_≡_}
+use mathlib.Core.List.{List, [], _∷_, _++_}
+use mathlib.Core.Bool.{Bool, true, false, cond, _&&_}
+use lib.ListN.{length, take, drop}
 use lib.Dec.{ltb, eqb}
 use Rattle.text.specs.Quoted.{ascii}
 use Rattle.text.specs.Bytes.{same}
 use Rattle.protocol.specs.declared.Filled.{Filled}
-
--- the bytes that digits write, if they do
-pub data Decoded : Type 0 where
-  bytes : List ℕ → Decoded
-  noBytes : Decoded
 
 -- the digit of a number below 16
 unfoldable pub digitOf : ℕ → ℕ
@@ -31,25 +27,28 @@ abbrev pub fieldOf : List ℕ → List ℕ
 fieldOf [] = ascii "-"
 fieldOf (b ∷ s) = hexOf (b ∷ s)
 
--- a byte before others
-abbrev pub led : ℕ → Decoded → Decoded
-led b (bytes s) = bytes (b ∷ s)
-led b noBytes = noBytes
-
 -- both are digits
 abbrev pub isPair : ℕ → ℕ → Bool
 isPair a b = ltb (digitValue a) 16 && ltb (digitValue b) 16
 
--- the bytes that pairs of digits write
-unfoldable pub pairs : List ℕ → Decoded
-pairs [] = bytes []
-pairs (a ∷ []) = noBytes
-pairs (a ∷ b ∷ s) = cond (isPair a b) (led (digitValue a * 16 + digitValue b) (pairs s)) noBytes
+-- the bytes that pairs of digits write, up to the first that is no pair
+unfoldable pub pairs : List ℕ → List ℕ
+pairs [] = []
+pairs (a ∷ []) = []
+pairs (a ∷ b ∷ s) = cond (isPair a b) ((digitValue a * 16 + digitValue b) ∷ pairs s) []
 
--- the byte string that a field writes: `-`, or one pair and more
-abbrev pub fieldBytes : List ℕ → Decoded
-fieldBytes f = cond (same (ascii "-") f) (bytes []) (cond (eqb (length f) 0) noBytes (pairs f))
+-- a field is `-`, or one pair and more up to its end; its byte string is that of its pairs
+abbrev pub isField : List ℕ → Bool
+isField f = cond (same (ascii "-") f) true (cond (eqb (length f) 0) false (eqb (2 * length (pairs f)) (length f)))
 
--- what was put at the start of a lent buffer
-abbrev pub filledSaid : Filled → List ℕ → Decoded
-filledSaid r out = cond (r .good) (bytes (take (r .len) out)) noBytes
+-- n bytes stand at the start of xs
+abbrev pub Within : ℕ → List ℕ → Type 0
+Within n xs = (n ≤ length xs) × (n ≡ length (take n xs))
+
+-- what is said of a field
+abbrev pub filled : List ℕ → Filled
+filled f = record { good = isField f; len = length (pairs f) }
+
+-- a buffer with a byte string put at its start
+abbrev pub front : List ℕ → List ℕ → List ℕ
+front s old = s ++ drop (length s) old

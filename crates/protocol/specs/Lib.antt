@@ -1,2 +1,2 @@
 pub mod Hex
-pub mod Fields
+pub mod Pieces

@@ -1,39 +1,18 @@
 // Lines of a word and fields, each after one space: byte strings read from lower-case hex, and
 // written.
 ghost use mathlib.Core.Path.{_≡_};
+ghost use mathlib.Core.List.{[]};
 ghost use Prim.Native.Nat.{_+_, _*_, _≤_, _<_};
-ghost use lib.ListN.{length};
+ghost use lib.ListN.{length, getD};
 ghost use Rattle.fields.specs.Appended.{Appended};
-ghost use Rattle.protocol.specs.Hex.{digitOf, digitValue, fieldOf, pairs, fieldBytes, filledSaid};
-ghost use Rattle.protocol.specs.Fields.{Within, fieldWidth, fieldAt, oneAt, twoAt, threeAt, fieldSaid, twoSaid, threeSaid};
+ghost use Rattle.protocol.specs.Hex.{digitOf, digitValue, fieldOf, pairs, front, filled, Within};
+ghost use Rattle.protocol.specs.Pieces.{spacesOf, pieces, width};
 use fields::put_byte;
 
-// How many bytes were put at the start of a lent buffer, if there was a byte string.
+// Whether a field is a byte string, and how many bytes were put at the start of a lent buffer.
 pub struct Filled {
     pub good: bool,
     pub len: usize,
-}
-
-// The same of one field of a line, and where the field ends.
-pub struct Field {
-    pub good: bool,
-    pub len: usize,
-    pub next: usize,
-}
-
-// The same of two fields and two buffers.
-pub struct Two {
-    pub good: bool,
-    pub first: usize,
-    pub second: usize,
-}
-
-// The same of three fields and three buffers.
-pub struct Three {
-    pub good: bool,
-    pub first: usize,
-    pub second: usize,
-    pub third: usize,
 }
 
 fn digit_of(d: u8) -> u8
@@ -62,164 +41,96 @@ fn digit_value(b: u8) -> u8
     16
 }
 
-// Puts the byte string that pairs of digits write at the start of out.
-fn decode_pairs(field: &[u8], out: &mut [u8]) -> Filled
+// Puts what pairs of digits write at the start of out, up to the first that is no pair; how many bytes.
+fn put_pairs(field: &[u8], out: &mut [u8]) -> usize
     requires { ⌜ length (now field) ≤ 2 * length (now out) ⌝ }
-    ensures { λ r. ⌜ Within (r .len) (now (out .exit)) ⌝ }
-    ensures { λ r. ⌜ filledSaid r (now (out .exit)) ≡ pairs (now (field .entry)) ⌝ }
+    ensures { λ r. ⌜ (r ≡ length (pairs (now (field .entry)))) × (2 * r ≤ length (now (field .entry))) ⌝ }
+    ensures { λ _. ⌜ now (out .exit) ≡ front (pairs (now (field .entry))) (now (out .entry)) ⌝ }
 {
     let mut i = 0;
     let mut n = 0;
     while i + 1 < field.len() {
         let high = digit_value(field[i]);
         if 15 < high {
-            return Filled {
-                good: false,
-                len: 0,
-            };
+            return n;
         }
         let low = digit_value(field[i + 1]);
         if 15 < low {
-            return Filled {
-                good: false,
-                len: 0,
-            };
+            return n;
         }
         out[n] = high * 16 + low;
         n += 1;
         i += 2;
     }
-    if i < field.len() {
-        return Filled {
-            good: false,
-            len: 0,
-        };
-    }
-    Filled { good: true, len: n }
+    n
 }
 
 // Puts a field's byte string at the start of out.
 pub fn decode(field: &[u8], out: &mut [u8]) -> Filled
     requires { ⌜ length (now field) ≤ 2 * length (now out) ⌝ }
-    ensures { λ r. ⌜ Within (r .len) (now (out .exit)) ⌝ }
-    ensures { λ r. ⌜ filledSaid r (now (out .exit)) ≡ fieldBytes (now (field .entry)) ⌝ }
+    ensures { λ r. ⌜ (r ≡ filled (now (field .entry))) × Within (r .len) (now (out .exit)) ⌝ }
+    ensures { λ _. ⌜ now (out .exit) ≡ front (pairs (now (field .entry))) (now (out .entry)) ⌝ }
 {
+    let n = put_pairs(field, out);
     if text::same_bytes(field, b"-") {
-        return Filled { good: true, len: 0 };
+        return Filled { good: true, len: n };
     }
     if field.len() == 0 {
         return Filled {
             good: false,
-            len: 0,
+            len: n,
         };
     }
-    decode_pairs(field, out)
+    Filled {
+        good: 2 * n == field.len(),
+        len: n,
+    }
+}
+
+// 1 of a space, 0 of any other byte.
+fn spaces(b: u8) -> usize
+    ensures { λ r. ⌜ (r ≡ spacesOf b) × (r ≤ 1) ⌝ }
+{
+    if b == 32 { 1 } else { 0 }
+}
+
+// How many pieces a line has: its word, and its fields.
+pub fn count_pieces(line: &[u8]) -> usize
+    ensures { λ r. ⌜ r ≡ length (pieces (now (line .entry))) ⌝ }
+{
+    let mut n = 1;
+    let mut i = 0;
+    while i < line.len() {
+        n += spaces(line[i]);
+        i += 1;
+    }
+    n
 }
 
 // Where the first space stands, or the end.
-pub fn field_end(s: &[u8]) -> usize
-    ensures { λ r. ⌜ r ≡ fieldWidth (now (s .entry)) ⌝ }
-    ensures { λ r. ⌜ r ≤ length (now (s .entry)) ⌝ }
+fn piece_end(s: &[u8]) -> usize
+    ensures { λ r. ⌜ (r ≡ width (now (s .entry))) × (r ≤ length (now (s .entry))) ⌝ }
 {
     text::find(s, b" ")
 }
 
-// Puts the byte string of the field after the space at a place of the line at the start of out. At
-// the line's end there is none.
-pub fn next_field(line: &[u8], at: usize, out: &mut [u8]) -> Field
-    requires { ⌜ (at ≤ length (now line)) × (length (now line) ≤ 2 * length (now out)) ⌝ }
-    ensures { λ r. ⌜ (r .next ≤ length (now (line .entry))) × Within (r .len) (now (out .exit)) ⌝ }
-    ensures { λ r. ⌜ fieldSaid r (now (out .exit)) ≡ fieldAt (now (line .entry)) at ⌝ }
+// A line's piece by its number, the word being number 0; one that is not there is empty.
+pub fn piece(line: &[u8], number: usize) -> &[u8]
+    ensures { λ r. ⌜ now r ≡ getD (pieces (now (line .entry))) number [] ⌝ }
+    ensures { λ r. ⌜ length (now r) ≤ length (now (line .entry)) ⌝ }
 {
-    if line.len() <= at {
-        return Field {
-            good: false,
-            len: 0,
-            next: at,
-        };
+    let mut from = 0;
+    let mut left = number;
+    while left > 0 {
+        let end = from + piece_end(text::tail(line, from));
+        if line.len() <= end {
+            return text::tail(line, end);
+        }
+        from = end + 1;
+        left -= 1;
     }
-    let rest = text::tail(line, at + 1);
-    let width = field_end(rest);
-    let filled = decode(text::head(rest, width), out);
-    Field {
-        good: filled.good,
-        len: filled.len,
-        next: at + 1 + width,
-    }
-}
-
-// The same of the one field that is left.
-pub fn one_field(line: &[u8], at: usize, out: &mut [u8]) -> Filled
-    requires { ⌜ (at ≤ length (now line)) × (length (now line) ≤ 2 * length (now out)) ⌝ }
-    ensures { λ r. ⌜ Within (r .len) (now (out .exit)) ⌝ }
-    ensures { λ r. ⌜ filledSaid r (now (out .exit)) ≡ oneAt (now (line .entry)) at ⌝ }
-{
-    let field = next_field(line, at, out);
-    let next = field.next;
-    if next < line.len() {
-        return Filled {
-            good: false,
-            len: 0,
-        };
-    }
-    Filled {
-        good: field.good,
-        len: field.len,
-    }
-}
-
-// The same of the two fields that are left.
-pub fn two_fields(line: &[u8], at: usize, first: &mut [u8], second: &mut [u8]) -> Two
-    requires { ⌜ (at ≤ length (now line)) × ((length (now line) ≤ 2 * length (now first)) × (length (now line) ≤ 2 * length (now second))) ⌝ }
-    ensures { λ r. ⌜ Within (r .first) (now (first .exit)) × Within (r .second) (now (second .exit)) ⌝ }
-    ensures { λ r. ⌜ twoSaid r (now (first .exit)) (now (second .exit)) ≡ twoAt (now (line .entry)) at ⌝ }
-{
-    let field = next_field(line, at, first);
-    if !field.good {
-        return Two {
-            good: false,
-            first: 0,
-            second: 0,
-        };
-    }
-    let next = field.next;
-    let last = one_field(line, next, second);
-    Two {
-        good: last.good,
-        first: field.len,
-        second: last.len,
-    }
-}
-
-// The same of the three fields that are left.
-pub fn three_fields(
-    line: &[u8],
-    at: usize,
-    first: &mut [u8],
-    second: &mut [u8],
-    third: &mut [u8],
-) -> Three
-    requires { ⌜ (at ≤ length (now line)) × ((length (now line) ≤ 2 * length (now first)) × ((length (now line) ≤ 2 * length (now second)) × (length (now line) ≤ 2 * length (now third)))) ⌝ }
-    ensures { λ r. ⌜ Within (r .first) (now (first .exit)) × (Within (r .second) (now (second .exit)) × Within (r .third) (now (third .exit))) ⌝ }
-    ensures { λ r. ⌜ threeSaid r (now (first .exit)) (now (second .exit)) (now (third .exit)) ≡ threeAt (now (line .entry)) at ⌝ }
-{
-    let field = next_field(line, at, first);
-    if !field.good {
-        return Three {
-            good: false,
-            first: 0,
-            second: 0,
-            third: 0,
-        };
-    }
-    let next = field.next;
-    let last = two_fields(line, next, second, third);
-    Three {
-        good: last.good,
-        first: field.len,
-        second: last.first,
-        third: last.second,
-    }
+    let rest = text::tail(line, from);
+    text::head(rest, piece_end(rest))
 }
 
 // Writes s as a field at a place of out, and answers the place behind it.

@@ -6,6 +6,7 @@
 //     kind TEXT               0 to 6: Voraussetzung, Hinweis, Format, Wiederholbarkeit, Zeitpunkt,
 //                             Paket, Other
 //     paket TEXT              ok LOW MARK HIGH, in decimal; HIGH is 0 where MARK is 0, unbounded
+//     name TEXT               ok NAME, the Paket's digits and `P`
 //     evaluate TEXT VALUE     H, V or U: Holds, Violated, Unregistered
 //     registered TEXT         0 or 1
 //     expr TEXT BUF           ok LENGTH BUF', the tree in the buffer
@@ -24,16 +25,30 @@
 // of more than 65,536 bytes are answered `bad request`. A line ends before its line feed, and a
 // last line needs none. Answers are written once the input that has come is used up, so a program
 // may wait for each.
+//
+// Proved of this program: it is safe and ends, every function that it calls is called as its contract asks, and those meet
+// their contracts. Run and not proved: which bytes a line is answered with. They are held to the stored list, and compared
+// with the Rust original.
 ghost use mathlib.Core.Path.{_≡_};
 ghost use Prim.Native.Nat.{_+_, _≤_, _<_};
 ghost use lib.ListN.{length};
-ghost use Rattle.requests.specs.Rooms.{room, HasRoom, Ready};
+ghost use Rattle.replay.specs.Rooms.{room, HasRoom, Ready};
 ghost use Rattle.replay.specs.Held.{Held};
 use libc::STDIN_FILENO;
 use libc::STDOUT_FILENO;
-use requests::BYTES;
-use requests::ROOM;
 use requests::respond;
+
+mod answers;
+mod requests;
+
+// The longest line.
+const LINE: usize = 65536;
+
+// The bytes that a field of a line can hold.
+const BYTES: usize = 32768;
+
+// The longest answer, some words and the digits of the longest field.
+const ROOM: usize = 65600;
 
 // The longest line, and one byte by which a longer one is told.
 const HELD: usize = 65537;

@@ -1,7 +1,7 @@
 use borrow.Author.Needs.{needs}
 use mathlib.Core.Path.{_≡_}
 use lib.ListN.{length}
-use Rattle.requests.specs.Rooms.{Ready}
+use Rattle.replay.specs.Rooms.{Ready}
 use Rattle.replay.specs.Held.{Held}
 use Rattle.replay.proofs.answer_all.Statement.{statement}
 use Rattle.replay.proofs.answer_all.Tie as tie

@@ -2,7 +2,7 @@ use borrow.Author.Needs.{needs}
 use Prim.Native.Nat.{_-_, _≤_}
 use mathlib.Core.Path.{_≡_}
 use lib.ListN.{length}
-use Rattle.requests.specs.Rooms.{Ready}
+use Rattle.replay.specs.Rooms.{Ready}
 use Rattle.replay.specs.Held.{Held}
 use Rattle.replay.proofs.take_input.Statement.{statement}
 use Rattle.replay.proofs.take_input.Tie as tie

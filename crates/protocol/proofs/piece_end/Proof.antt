@@ -2,8 +2,8 @@ use borrow.Author.Needs.{needs}
 use native.Mathlib.Omega.{arith}
 use mathlib.Core.List.{[], _∷_}
 use Rattle.text.proofs.Laws.{place-le}
-use Rattle.protocol.proofs.field_end.Statement.{statement}
-use Rattle.protocol.proofs.field_end.Tie as tie
+use Rattle.protocol.proofs.piece_end.Statement.{statement}
+use Rattle.protocol.proofs.piece_end.Tie as tie
 
 slice-aggregate-find : tie.Need-slice-aggregate-find
 slice-aggregate-find c = search needs
@@ -14,5 +14,5 @@ find-requires c κs = search needs
 returns : tie.Need-returns
 returns c = (c .find .ensures, omega (arith, c .find .ensures, place-le (32 ∷ []) (c .before .before .before .args .s .now)))
 
-pub field-end-spec : {M : Type 1} → statement M
-field-end-spec = tie.close (tie.spec slice-aggregate-find find-requires returns)
+pub piece-end-spec : {M : Type 1} → statement M
+piece-end-spec = tie.close (tie.spec slice-aggregate-find find-requires returns)

@@ -7,8 +7,8 @@ use native.Mathlib.Nat.{pow-le-pow-right}
 use lib.Dec.{leb}
 use borrow.Author.Tests.{leb-true, leb-false}
 use Rattle.io.specs.Digits.{Fewest}
-use Rattle.requests.proofs.decimal.Statement.{statement}
-use Rattle.requests.proofs.decimal.Tie as tie
+use Rattle.replay.proofs.answers.decimal.Statement.{statement}
+use Rattle.replay.proofs.answers.decimal.Tie as tie
 
 -- a number of 64 bits has 20 digits at most
 few : (n k : ℕ) → Fewest 10 1 n k → n < 2 ^ 64 → k ≤ 20

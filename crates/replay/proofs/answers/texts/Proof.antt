@@ -2,8 +2,8 @@ use Prim.Native.Nat.{_-_, _<_}
 use mathlib.Core.Path.{_≡_}
 use lib.ListN.{length}
 use borrow.Author.Needs.{needs}
-use Rattle.requests.proofs.cited_into.Statement.{statement}
-use Rattle.requests.proofs.cited_into.Tie as tie
+use Rattle.replay.proofs.answers.texts.Statement.{statement}
+use Rattle.replay.proofs.answers.texts.Tie as tie
 
 abbrev Inv-loop : tie.InvT-loop
 Inv-loop tree out₀ at₀ n₀ out at n = (at < 65600) × (length out ≡ length out₀)
@@ -11,8 +11,8 @@ Inv-loop tree out₀ at₀ n₀ out at n = (at < 65600) × (length out ≡ lengt
 abbrev μ-loop : tie.MeasureT-loop
 μ-loop tree out₀ at₀ n₀ out at n = 256 - n
 
-pub cited-into-spec : {M : Type 1} → statement M
-cited-into-spec =
+pub texts-spec : {M : Type 1} → statement M
+texts-spec =
     tie.close
     (tie.spec
     Inv-loop
