@@ -114,6 +114,7 @@ fn answer_fields(function: Function, fields: &[&[u8]]) -> Answer {
     match function {
         Function::Kind => plain(kind(first)?),
         Function::Paket => Ok((paket(first)?, Vec::new())),
+        Function::Name => Ok((name(first)?, Vec::new())),
         Function::Evaluate => plain(evaluate(first, second)?),
         Function::Registered => plain(u8::from(formatbedingung::is_registered(text(first)?))),
         Function::Expr => Ok(read_answer("ok", &read(text(first)?)?)),
@@ -174,8 +175,17 @@ fn kind(bytes: &[u8]) -> Result<u8, u8> {
     })
 }
 
+fn read_paket(bytes: &[u8]) -> Result<Paket, u8> {
+    Paket::parse(text(bytes)?).ok_or(NOT_A_PAKET)
+}
+
+/// A Paket's name, in hex.
+fn name(bytes: &[u8]) -> Result<String, u8> {
+    Ok(format!("ok {}", hex(read_paket(bytes)?.id.as_bytes())))
+}
+
 fn paket(bytes: &[u8]) -> Result<String, u8> {
-    let paket = Paket::parse(text(bytes)?).ok_or(NOT_A_PAKET)?;
+    let paket = read_paket(bytes)?;
     let (mark, high) = bound(&paket);
     Ok(format!("ok {} {mark} {high}", paket.min))
 }
@@ -246,14 +256,14 @@ fn status(bytes: &[u8]) -> Answer {
 }
 
 fn cited(expr: &Expr) -> String {
+    let texts: Vec<String> = expr.cited().iter().map(|text| hex(text.as_bytes())).collect();
+    texts.join(",")
+}
+
+fn hex(bytes: &[u8]) -> String {
     let mut out = Vec::new();
-    for (i, text) in expr.cited().iter().enumerate() {
-        if i > 0 {
-            out.push(b',');
-        }
-        write_hex(text.as_bytes(), &mut out);
-    }
-    String::from_utf8(out).expect("hex and commas")
+    write_hex(bytes, &mut out);
+    String::from_utf8(out).expect("hex")
 }
 
 fn truth_code(truth: Truth) -> u8 {

@@ -79,6 +79,11 @@ fn pakets(all: &mut Examples) {
     for (text, answer) in due {
         say(all, Function::Paket, &[text.as_bytes()], answer);
     }
+    for (text, answer) in
+        [("1P", "ok 3150"), ("10P1..1", "ok 313050"), ("1P2P", "refused 17"), ("XP1..2", "refused 17")]
+    {
+        say(all, Function::Name, &[text.as_bytes()], answer);
+    }
 }
 
 fn verdicts(all: &mut Examples) {

@@ -5,6 +5,7 @@
 pub enum Function {
     Kind,
     Paket,
+    Name,
     Evaluate,
     Registered,
     Expr,
@@ -27,9 +28,9 @@ pub const LONGEST_LINE: usize = 64 * 1024;
 pub const BAD_REQUEST: &str = "bad request";
 
 impl Function {
-    pub const ALL: [Self; 14] = [
-        Kind, Paket, Evaluate, Registered, Expr, Status, Tree, Print, Cited, Eval, Pakete, Truth, Violations,
-        Protocol,
+    pub const ALL: [Self; 15] = [
+        Kind, Paket, Name, Evaluate, Registered, Expr, Status, Tree, Print, Cited, Eval, Pakete, Truth,
+        Violations, Protocol,
     ];
 
     /// The word that a request begins with.
@@ -37,6 +38,7 @@ impl Function {
         match self {
             Kind => "kind",
             Paket => "paket",
+            Name => "name",
             Evaluate => "evaluate",
             Registered => "registered",
             Expr => "expr",
@@ -60,7 +62,7 @@ impl Function {
     /// How many byte strings a request has.
     pub fn fields(self) -> usize {
         match self {
-            Kind | Paket | Registered | Tree | Cited => 1,
+            Kind | Paket | Name | Registered | Tree | Cited => 1,
             Violations => 3,
             Protocol => 0,
             _ => 2,

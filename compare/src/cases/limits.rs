@@ -6,7 +6,7 @@ use crate::request::Function::{self, *};
 use crate::tree::{MOST_CITATIONS, MOST_TEXT_BYTES, encode, encode_parts};
 
 pub fn limits(cases: &mut Cases) {
-    for function in [Kind, Paket, Registered] {
+    for function in [Kind, Paket, Name, Registered] {
         text_limits(cases, function, &[]);
     }
     text_limits(cases, Evaluate, &[b"1"]);

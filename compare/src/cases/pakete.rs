@@ -1,25 +1,31 @@
-//! `Paket::parse`.
+//! `Paket::parse`: the bounds and the name.
 
 use super::{Cases, strings};
-use crate::request::Function::Paket;
+use crate::request::Function::{Name, Paket};
 
 const PARTS: [&str; 16] =
     ["0", "1", "7", "9", "P", "P", ".", "..", "..", "n", "+", "-", " ", "é", "N", "18446744073709551615"];
 
 pub fn pakete(cases: &mut Cases) {
-    if !cases.knows(Paket) {
+    if !cases.knows_any(&[Paket, Name]) {
         return;
     }
     let most = cases.size(6, 8);
-    let mut asked = |text: &str| cases.ask(Paket, &[text.as_bytes()]);
+    let mut asked = |text: &str| ask(cases, text.as_bytes());
     strings(&["1", "0", "P", ".", "n", "+"], most, &mut asked);
     bounds(cases);
     names(cases);
     for _ in 0..cases.size(150_000, 3_000_000) {
         let name = cases.random.joined(&["0", "1", "9", "+", "é", "P"], 4);
         let rest = cases.random.joined(&PARTS, 9);
-        cases.ask(Paket, &[format!("{name}P{rest}").as_bytes()]);
+        ask(cases, format!("{name}P{rest}").as_bytes());
     }
+}
+
+/// Asks a text for its bounds and its name.
+pub fn ask(cases: &mut Cases, text: &[u8]) {
+    cases.ask(Paket, &[text]);
+    cases.ask(Name, &[text]);
 }
 
 /// Low and high around the widths that could be taken for 64 bits.
@@ -35,10 +41,10 @@ fn bounds(cases: &mut Cases) {
     let all: Vec<String> = numbers.iter().flat_map(signed).collect();
     for number in &all {
         for other in all.iter().step_by(cases.size(5, 1)) {
-            cases.ask(Paket, &[format!("1P{number}..{other}").as_bytes()]);
-            cases.ask(Paket, &[format!("1P{other}..{number}").as_bytes()]);
+            ask(cases, format!("1P{number}..{other}").as_bytes());
+            ask(cases, format!("1P{other}..{number}").as_bytes());
         }
-        cases.ask(Paket, &[format!("{number}P1..2").as_bytes()]);
+        ask(cases, format!("{number}P1..2").as_bytes());
     }
 }
 
@@ -54,13 +60,13 @@ fn names(cases: &mut Cases) {
             format!("1P0..{zeros}"),
             format!("1P0..1{zeros}"),
         ] {
-            cases.ask(Paket, &[text.as_bytes()]);
+            ask(cases, text.as_bytes());
         }
     }
     for byte in 0..=255u8 {
-        cases.ask(Paket, &[&[byte, b'P', b'1', b'.', b'.', b'2']]);
-        cases.ask(Paket, &[&[b'1', b'P', byte, b'.', b'.', b'2']]);
-        cases.ask(Paket, &[&[b'1', b'P', b'1', b'.', b'.', byte]]);
-        cases.ask(Paket, &[&[b'1', b'P', byte]]);
+        ask(cases, &[byte, b'P', b'1', b'.', b'.', b'2']);
+        ask(cases, &[b'1', b'P', byte, b'.', b'.', b'2']);
+        ask(cases, &[b'1', b'P', b'1', b'.', b'.', byte]);
+        ask(cases, &[b'1', b'P', byte]);
     }
 }

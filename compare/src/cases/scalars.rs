@@ -1,7 +1,7 @@
 //! Every scalar value: 918, white space, and characters that are no condition.
 
-use super::{Cases, every_scalar};
-use crate::request::Function::{Evaluate, Expr, Kind, Paket, Registered, Status};
+use super::{Cases, every_scalar, pakete};
+use crate::request::Function::{Evaluate, Expr, Kind, Registered, Status};
 
 pub fn scalars(cases: &mut Cases) {
     for character in every_scalar() {
@@ -31,7 +31,8 @@ fn in_the_leaves(cases: &mut Cases, text: &str) {
     cases.ask(Kind, &[text.as_bytes()]);
     cases.ask(Kind, &[format!("{text}5").as_bytes()]);
     cases.ask(Kind, &[format!("5{text}").as_bytes()]);
-    cases.ask(Paket, &[format!("1P{text}1..2").as_bytes()]);
+    pakete::ask(cases, format!("1P{text}1..2").as_bytes());
+    pakete::ask(cases, format!("1{text}P1..2").as_bytes());
     cases.ask(Registered, &[format!("90{text}").as_bytes()]);
     for id in ["902", "905", "910", "939", "940", "942"] {
         cases.ask(Evaluate, &[id.as_bytes(), format!("+{text}").as_bytes()]);
