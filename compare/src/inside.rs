@@ -3,7 +3,7 @@
 
 use super::{ExprError, Tok, lex};
 
-/// What document 01's refusals 6, 12 and 13 ask of a text.
+/// What the refusals 6, 12 and 13 ask of a text.
 #[derive(Default)]
 pub struct Sizes {
     pub tokens: usize,

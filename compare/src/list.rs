@@ -56,7 +56,7 @@ fn put(path: &Path, bytes: &[u8]) -> Result<(), String> {
     fs::write(path, bytes).map_err(|e| format!("{}: {e}", path.display()))
 }
 
-const EXAMPLES: &str = "document 01's examples and bounds";
+const EXAMPLES: &str = "examples and bounds";
 const LIMITS: &str = "limits and lines that are no requests";
 const SAMPLE: &str = "sample of the short comparison";
 
@@ -73,7 +73,7 @@ fn entry(section: &'static str, function: Function, request: &[u8]) -> Option<En
     Some(Entry { section, origin, function, request: request.to_vec(), answer })
 }
 
-/// Document 01's examples; whoever is asked must answer as it does.
+/// The documents' examples; whoever is asked must answer as they do.
 fn paper_entries(known: &[Function]) -> Result<Vec<Entry>, String> {
     let mut entries = Vec::new();
     for (line, due) in paper::examples(known) {
@@ -82,7 +82,7 @@ fn paper_entries(known: &[Function]) -> Result<Vec<Entry>, String> {
             Some(entry) if entry.answer == due.as_bytes() => entries.push(entry),
             _ => {
                 let line = String::from_utf8_lossy(&line).into_owned();
-                return Err(format!("document 01 answers {line} with {due}, the oracle does not"));
+                return Err(format!("the documents answer {line} with {due}, the oracle does not"));
             }
         }
     }
@@ -151,7 +151,7 @@ fn origin_words(origin: Origin) -> String {
     match origin {
         Origin::Rust => "the Rust original".to_owned(),
         Origin::Time => "the Rust original over the stand-in for `time`".to_owned(),
-        Origin::Paper => "document 01".to_owned(),
+        Origin::Paper => "our documents (docs/FORMAT.md, docs/SEMANTICS.md)".to_owned(),
         Origin::Model(reason) => format!("the model: {reason}"),
         Origin::Protocol => "the line protocol".to_owned(),
     }

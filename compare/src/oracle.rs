@@ -1,4 +1,4 @@
-//! The original's answers, within document 01's limits.
+//! The original's answers, within our limits (docs/FORMAT.md).
 
 use std::collections::HashMap;
 
@@ -16,7 +16,7 @@ pub const STATUS_WORDS: [&str; 7] = ["Muss", "Soll", "Kann", "X", "M", "S", "K"]
 /// Registered in the original, but not here.
 pub const IDENTIFIERS: [&str; 6] = ["922", "950", "951", "953", "960", "961"];
 
-/// Document 01's refusals.
+/// The refusals of README's table.
 pub mod refusal {
     pub const STRAY: u8 = 1;
     pub const UNTERMINATED: u8 = 2;
@@ -46,7 +46,7 @@ pub enum Origin {
     Rust,
     /// The original's over the stand-in for `time`.
     Time,
-    /// Document 01's, where the original has none.
+    /// Our documents (docs/FORMAT.md, docs/SEMANTICS.md), where the original has none.
     Paper,
     /// The plain model's, where a rule takes the request out for this reason.
     Model(Reason),
@@ -242,7 +242,7 @@ fn status(bytes: &[u8]) -> Answer {
     let word = words.next().ok_or(NO_STATUS_WORD)?;
     let kind = Status::parse(word).ok_or(NO_STATUS_WORD)?.kind;
     let code = STATUS_WORDS.iter().position(|w| *w == kind.as_str());
-    let code = code.expect("a status word of document 01");
+    let code = code.expect("a status word");
     let rest: Vec<&str> = words.collect();
     if rest.is_empty() {
         return Ok((format!("ok {code} none"), Vec::new()));

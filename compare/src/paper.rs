@@ -1,4 +1,4 @@
-//! Document 01's examples and bounds as requests, with the answers that its text gives.
+//! The worked examples and bounds of docs/FORMAT.md and docs/SEMANTICS.md as requests, with the answers written down from the text.
 
 use crate::request::{Function, write_hex, write_request};
 use crate::tree::encode_parts;

@@ -7,7 +7,7 @@ use std::process::Command;
 use crate::original::conditions::{Expr, Status};
 use crate::tried::{Folder, Written};
 
-/// The words that are asked: those of document 01, and their like.
+/// The words that are asked: the status words, and their like.
 const WORDS: [&str; 16] = [
     "Muss", "Soll", "Kann", "X", "M", "S", "K", "muss", "MUSS", "Mus", "Musss", "x", "XX", "MS", "Ä", "Kann.",
 ];

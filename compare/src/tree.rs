@@ -1,4 +1,4 @@
-//! The tree as bytes (document 01), from and to the original's expressions.
+//! The tree as bytes (docs/FORMAT.md), from and to the original's expressions.
 
 use crate::original::conditions::Expr;
 
@@ -16,7 +16,7 @@ pub fn operands(expr: &Expr) -> &[Expr] {
     }
 }
 
-/// The node kind of document 01.
+/// The node kind, as a tree's row has it.
 fn kind(expr: &Expr) -> u8 {
     match expr {
         Expr::Cond(_) => 0,

@@ -1,5 +1,5 @@
 //! Stands in for the crate `time`: dates of the proleptic Gregorian calendar, years
-//! -9999 to 9999 with year 0 a leap year, as document 01 gives their meaning.
+//! -9999 to 9999 with year 0 a leap year, as docs/SEMANTICS.md gives their meaning.
 //! It counts how often it is asked, so that such cases can be told apart.
 
 use std::cell::Cell;

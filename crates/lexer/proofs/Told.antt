@@ -12,6 +12,7 @@ use borrow.Author.Tests.{ne-eqb}
 use Rattle.refusal.specs.Result.{Result, ok, refused, refuse, unless-ok, refused≢ok, map-ok, then}
 use Rattle.refusal.specs.declared.Refusal.{Refusal}
 use Rattle.refusal.specs.declared.Refusal.the-variants.{NoStatusWord, Empty, TooManyCitations, TooDeep}
+use Rattle.text.specs.Bytes.{over}
 use Rattle.utf8.specs.Utf8.{isUtf8, decode, encode}
 use Rattle.utf8.specs.White.{isWhite}
 use Rattle.utf8.specs.Limits.{textLimit}
@@ -26,7 +27,7 @@ use Rattle.grammar.specs.Status.{ended, wordsFrom, words, spaced, joined, alone
 use Rattle.grammar.specs.StatusLaws.{rest-size, rest-scalars}
 use Rattle.lexer.specs.Runs.{leading, trailing, runEnd, firstWord}
 use Rattle.lexer.specs.Tokens.{kindsOf, counted, lexedSaid, limited, tokenized, cuts}
-use Rattle.lexer.specs.Scan.{scanned, placesIn, over, scan-lex, scanned-all}
+use Rattle.lexer.specs.Scan.{scanned, placesIn, scan-lex, scanned-all}
 use Rattle.lexer.specs.State.{reading}
 use Rattle.lexer.specs.declared.Lexed.the-variants.{Tokens, Refused}
 use Rattle.lexer.proofs.Split.{encode-append, size-cons, char-size}

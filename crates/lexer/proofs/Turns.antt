@@ -10,6 +10,7 @@ use lib.Seq.{append-snoc, take-all, take-nil, take-append-le, length-take-le, se
 use Rattle.refusal.specs.Result.{Result, ok, refused, refuse, map-ok, then}
 use Rattle.refusal.specs.Refusals.{numberOf}
 use Rattle.refusal.specs.declared.Refusal.{Refusal}
+use Rattle.text.specs.Bytes.{over}
 use Rattle.utf8.specs.Utf8.{isUtf8, decode}
 use Rattle.utf8.specs.Limits.{textLimit}
 use Rattle.grammar.specs.Expr.{concat}
@@ -18,7 +19,7 @@ use Rattle.grammar.specs.Rows.{citeKind}
 use Rattle.grammar.specs.LexPrint.{before}
 use Rattle.grammar.specs.Bounds.{concat-append}
 use Rattle.lexer.specs.Tokens.{kindOf, kindsOf, deeper, depth, counted, lexedSaid, limited, tokenized, countsLimited, placed}
-use Rattle.lexer.specs.Scan.{Scan, halt, meets, scan, scanned, placesIn, outcome, over, scan-lex}
+use Rattle.lexer.specs.Scan.{Scan, halt, meets, scan, scanned, placesIn, outcome, scan-lex}
 use Rattle.lexer.specs.State.{Ahead, Marked, Cites, reading, State, Rests, Turned, Written, Ends}
 use Rattle.lexer.specs.declared.Turn.the-variants.{On, Off}
 use Rattle.lexer.specs.declared.Count.{Count}

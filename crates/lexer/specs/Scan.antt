@@ -4,7 +4,7 @@ use mathlib.Core.Path.{_≡_, refl, ap, ap₂, _∙_}
 use mathlib.Core.Bool.{Bool, true, false, cond}
 use mathlib.Core.List.{List, [], _∷_, _++_}
 use lib.Dec.{eqb}
-use lib.ListN.{length, drop}
+use lib.ListN.{length}
 use Rattle.refusal.specs.Result.{Result, ok, refused, refuse, refused≢ok, map-ok}
 use Rattle.refusal.specs.declared.Refusal.{Refusal}
 use Rattle.refusal.specs.declared.Refusal.the-variants.{Stray, Unterminated, EmptyCondition}
@@ -69,10 +69,6 @@ unfoldable pub outcome : Scan → Result (List Tok)
 outcome last = ok []
 outcome (halt why) = refuse why
 outcome (meets at t r) = also t (outcome r)
-
--- numbers in front, and behind them what stood there
-abbrev pub over : List ℕ → List ℕ → List ℕ
-over l old = l ++ drop (length l) old
 
 outer-outcome : (p : Part) (at : ℕ) (x y : Scan) → outcome (outerScan p at x y) ≡ outer p (outcome x) (outcome y)
 unfolding outcome outerScan outer

@@ -5,12 +5,13 @@ use mathlib.Core.Bool.{true}
 use mathlib.Core.List.{List, [], _∷_, _++_}
 use lib.ListN.{length, take, drop}
 use Rattle.refusal.specs.Result.{refuse}
+use Rattle.text.specs.Bytes.{over}
 use Rattle.utf8.specs.Utf8.{isUtf8, decode}
 use Rattle.grammar.specs.Expr.{concat}
 use Rattle.grammar.specs.Lex.{Tok, cited, lex, texts}
 use Rattle.grammar.specs.LexPrint.{before}
 use Rattle.lexer.specs.Tokens.{kindOf, kindsOf, depth}
-use Rattle.lexer.specs.Scan.{Scan, halt, meets, scan, scanIn, scanned, placesIn, outcome, over}
+use Rattle.lexer.specs.Scan.{Scan, halt, meets, scan, scanIn, scanned, placesIn, outcome}
 use Rattle.lexer.specs.declared.Close.{Close}
 use Rattle.lexer.specs.declared.Close.the-variants.{At, Never}
 use Rattle.lexer.specs.declared.Token.{Token}

@@ -9,6 +9,7 @@ ghost use mathlib.Core.List.{_++_};
 ghost use Prim.Native.Nat.{_+_, _-_, _≤_, _<_};
 ghost use lib.ListN.{length, take, drop, set};
 ghost use Rattle.refusal.specs.Result.{map-ok};
+ghost use Rattle.text.specs.Bytes.{over};
 ghost use Rattle.laws.specs.Tests.{agree};
 ghost use Rattle.utf8.specs.Utf8.{isUtf8, decode, encode};
 ghost use Rattle.utf8.specs.Limits.{textLimit};
@@ -17,7 +18,7 @@ ghost use Rattle.grammar.specs.Status.{words, joined};
 ghost use Rattle.fields.specs.Appended.{Appended};
 ghost use Rattle.lexer.specs.Runs.{runEnd, upTo, firstWord, gap};
 ghost use Rattle.lexer.specs.Tokens.{kindsOf, partNumber, deeper, counted, lexedSaid, tokenized, countsLimited, placed, startOf, sizeOf};
-ghost use Rattle.lexer.specs.Scan.{scan, scanned, placesIn, over};
+ghost use Rattle.lexer.specs.Scan.{scan, scanned, placesIn};
 ghost use Rattle.lexer.specs.State.{Closes, Begins, State, Turned, Ends};
 
 // The kinds of tokens; a citation and the operators have those of their node rows.

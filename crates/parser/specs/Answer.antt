@@ -10,7 +10,7 @@ use Rattle.refusal.specs.Result.{Result, ok, refused, refuse, said-injective}
 use Rattle.grammar.specs.Expr.{Expr}
 use Rattle.grammar.specs.Parse.{parse}
 use Rattle.grammar.specs.Rows.{citeKind, rows}
-use Rattle.lexer.specs.Scan.{over}
+use Rattle.text.specs.Bytes.{over}
 use Rattle.parser.specs.Packed.{packed}
 use Rattle.parser.specs.Tokens.{tok}
 use Rattle.parser.specs.declared.Parsed.{Parsed}

@@ -9,8 +9,8 @@ use lib.ListN.{length, getD, take, drop, set, length-drop, take-append-drop}
 use lib.Seq.{drop-cons, take-suc, take-suc-set, length-take-le}
 use lib.Dec.{ltb, eqb}
 use borrow.Author.Tests.{lt-ltb, le-ltb, eq-eqb, ne-eqb}
-use Rattle.text.specs.Bytes.{same}
-use Rattle.protocol.specs.Hex.{digitOf, digitValue, hexOf, fieldOf, isPair, pairs, filled, front}
+use Rattle.text.specs.Bytes.{same, over}
+use Rattle.protocol.specs.Hex.{digitOf, digitValue, hexOf, fieldOf, isPair, pairs, filled}
 
 module _ (f : List ℕ) (i : ℕ) (h : i + 1 < length f) where
   abbrev pub byte : ℕ
@@ -51,8 +51,8 @@ pairs-end f i h = go (drop i f) (omega (arith, length-drop i f))
     go (a ∷ b ∷ s) k = absurd (omega arith)
 
 -- what a buffer holds where its first bytes are a byte string and the others stayed
-pub front-is : (new old s : List ℕ) (n : ℕ) → n ≤ length new → take n new ≡ s → drop n new ≡ drop n old → (n ≡ length s) × (new ≡ front s old)
-front-is new old s n h e d =
+pub over-is : (new old s : List ℕ) (n : ℕ) → n ≤ length new → take n new ≡ s → drop n new ≡ drop n old → (n ≡ length s) × (new ≡ over s old)
+over-is new old s n h e d =
     let l : n ≡ length s = sym (length-take-le n new h) ∙ ap length e in
     (l, sym (take-append-drop n new) ∙ ap₂ _++_ e (d ∙ ap (λ (k : ℕ). drop k old) l))
 

@@ -1,9 +1,9 @@
 -- Byte strings as fields of a line: two lower-case hex digits a byte, `-` for no bytes. Assumes nothing.
 use Prim.Native.Nat.{ℕ, _+_, _-_, _*_, _/_, _%_, _≤_}
 use mathlib.Core.Path.{_≡_}
-use mathlib.Core.List.{List, [], _∷_, _++_}
+use mathlib.Core.List.{List, [], _∷_}
 use mathlib.Core.Bool.{Bool, true, false, cond, _&&_}
-use lib.ListN.{length, take, drop}
+use lib.ListN.{length, take}
 use lib.Dec.{ltb, eqb}
 use Rattle.text.specs.Quoted.{ascii}
 use Rattle.text.specs.Bytes.{same}
@@ -48,7 +48,3 @@ Within n xs = (n ≤ length xs) × (n ≡ length (take n xs))
 -- what is said of a field
 abbrev pub filled : List ℕ → Filled
 filled f = record { good = isField f; len = length (pairs f) }
-
--- a buffer with a byte string put at its start
-abbrev pub front : List ℕ → List ℕ → List ℕ
-front s old = s ++ drop (length s) old

@@ -3,6 +3,7 @@ use Prim.Native.Nat.{ℕ}
 use mathlib.Core.List.{List, [], _∷_}
 use mathlib.Core.Bool.{cond}
 use lib.Dec.{eqb}
+use Rattle.text.specs.Quoted.{ascii}
 use Rattle.text.specs.Bytes.{place}
 
 -- the pieces with a byte in front of the first
@@ -21,4 +22,4 @@ spacesOf b = cond (eqb b 32) 1 0
 
 -- how many bytes stand before the first space
 abbrev pub width : List ℕ → ℕ
-width s = place (32 ∷ []) s
+width s = place (ascii " ") s

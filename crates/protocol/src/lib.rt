@@ -5,7 +5,8 @@ ghost use mathlib.Core.List.{[]};
 ghost use Prim.Native.Nat.{_+_, _*_, _≤_, _<_};
 ghost use lib.ListN.{length, getD};
 ghost use Rattle.fields.specs.Appended.{Appended};
-ghost use Rattle.protocol.specs.Hex.{digitOf, digitValue, fieldOf, pairs, front, filled, Within};
+ghost use Rattle.protocol.specs.Hex.{digitOf, digitValue, fieldOf, pairs, filled, Within};
+ghost use Rattle.text.specs.Bytes.{over};
 ghost use Rattle.protocol.specs.Pieces.{spacesOf, pieces, width};
 use fields::put_byte;
 
@@ -45,7 +46,7 @@ fn digit_value(b: u8) -> u8
 fn put_pairs(field: &[u8], out: &mut [u8]) -> usize
     requires { ⌜ length (now field) ≤ 2 * length (now out) ⌝ }
     ensures { λ r. ⌜ (r ≡ length (pairs (now (field .entry)))) × (2 * r ≤ length (now (field .entry))) ⌝ }
-    ensures { λ _. ⌜ now (out .exit) ≡ front (pairs (now (field .entry))) (now (out .entry)) ⌝ }
+    ensures { λ _. ⌜ now (out .exit) ≡ over (pairs (now (field .entry))) (now (out .entry)) ⌝ }
 {
     let mut i = 0;
     let mut n = 0;
@@ -69,7 +70,7 @@ fn put_pairs(field: &[u8], out: &mut [u8]) -> usize
 pub fn decode(field: &[u8], out: &mut [u8]) -> Filled
     requires { ⌜ length (now field) ≤ 2 * length (now out) ⌝ }
     ensures { λ r. ⌜ (r ≡ filled (now (field .entry))) × Within (r .len) (now (out .exit)) ⌝ }
-    ensures { λ _. ⌜ now (out .exit) ≡ front (pairs (now (field .entry))) (now (out .entry)) ⌝ }
+    ensures { λ _. ⌜ now (out .exit) ≡ over (pairs (now (field .entry))) (now (out .entry)) ⌝ }
 {
     let n = put_pairs(field, out);
     if text::same_bytes(field, b"-") {

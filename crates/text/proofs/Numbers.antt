@@ -102,8 +102,8 @@ module _ (most : ℕ) (d : List ℕ) where
   up-here h a l = rw (lt-ltb 0 (length d) h, a, le-leb (natOf d) most l)
 
 -- a digit that takes the number over the largest one
-pub over : (most n : ℕ) (s : List ℕ) (i : ℕ) → i < length s → most < n * 10 + (getD s i 0 - 48) → most < natFrom n (drop i s)
-over most n s i h l = omega (arith, nat-ge (n * 10 + (getD s i 0 - 48)) (drop (i + 1) s), nat-next n s i h)
+pub too-large : (most n : ℕ) (s : List ℕ) (i : ℕ) → i < length s → most < n * 10 + (getD s i 0 - 48) → most < natFrom n (drop i s)
+too-large most n s i h l = omega (arith, nat-ge (n * 10 + (getD s i 0 - 48)) (drop (i + 1) s), nat-next n s i h)
 
 -- nothing that begins with another byte than a digit stands among digits
 module _ (x : ℕ) (t : List ℕ) (no : isDigit x ≡ false) where

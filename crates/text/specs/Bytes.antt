@@ -1,6 +1,6 @@
 -- Byte strings. Assumes nothing.
 use Prim.Native.Nat.{ℕ, suc, _-_}
-use mathlib.Core.List.{List, [], _∷_}
+use mathlib.Core.List.{List, [], _∷_, _++_}
 use mathlib.Core.Bool.{Bool, true, false, cond, _&&_}
 use lib.ListN.{length, take, drop}
 use lib.Dec.{ltb, leb, eqb}
@@ -36,3 +36,7 @@ has t s = ltb (place t s) (length s)
 -- so many bytes from a place on
 abbrev pub part : ℕ → ℕ → List ℕ → List ℕ
 part from count s = take count (drop from s)
+
+-- a list put over the front of another: behind it stands what stood there
+abbrev pub over : List ℕ → List ℕ → List ℕ
+over s old = s ++ drop (length s) old

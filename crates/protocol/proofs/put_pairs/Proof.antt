@@ -5,8 +5,9 @@ use mathlib.Core.List.{List, [], _++_, append-nil}
 use native.Mathlib.Omega.{arith}
 use lib.ListN.{length, take, drop, length-set}
 use lib.Seq.{drop-set-lt, drop-drop}
-use Rattle.protocol.specs.Hex.{pairs, front}
-use Rattle.protocol.proofs.Laws.{pairs-put, pairs-no-first, pairs-no-second, pairs-end, front-is}
+use Rattle.text.specs.Bytes.{over}
+use Rattle.protocol.specs.Hex.{pairs}
+use Rattle.protocol.proofs.Laws.{pairs-put, pairs-no-first, pairs-no-second, pairs-end, over-is}
 use Rattle.protocol.proofs.put_pairs.Statement.{statement}
 use Rattle.protocol.proofs.put_pairs.Tie as tie
 
@@ -15,9 +16,9 @@ further : (new old : List ℕ) (n : ℕ) → drop n new ≡ drop n old → drop 
 further new old n e = sym (drop-drop 1 n new) ∙ ap (drop 1) e ∙ drop-drop 1 n old
 
 -- no pair is left
-done : (f old new : List ℕ) (i n : ℕ) → n ≤ length new → pairs (drop i f) ≡ [] → take n new ++ pairs (drop i f) ≡ pairs f → drop n new ≡ drop n old → 2 * n ≤ length f → ((n ≡ length (pairs f)) × (2 * n ≤ length f)) × (new ≡ front (pairs f) old)
+done : (f old new : List ℕ) (i n : ℕ) → n ≤ length new → pairs (drop i f) ≡ [] → take n new ++ pairs (drop i f) ≡ pairs f → drop n new ≡ drop n old → 2 * n ≤ length f → ((n ≡ length (pairs f)) × (2 * n ≤ length f)) × (new ≡ over (pairs f) old)
 done f old new i n h e p d b =
-    let q = front-is new old (pairs f) n h (sym (append-nil (take n new)) ∙ ap (λ (l : List ℕ). take n new ++ l) (sym e) ∙ p) d in
+    let q = over-is new old (pairs f) n h (sym (append-nil (take n new)) ∙ ap (λ (l : List ℕ). take n new ++ l) (sym e) ∙ p) d in
     ((q .0, b), q .1)
 
 abbrev Inv-loop : tie.InvT-loop

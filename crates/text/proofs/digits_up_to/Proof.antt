@@ -7,7 +7,7 @@ use Rattle.text.specs.Digits.{isDigit, allDigits, natFrom, natOf}
 use Rattle.text.proofs.Laws.{all-pass, all-fail, all-end, empty}
 use Rattle.text.proofs.Numbers.{nat-next, digit-low, digit-high, digit-in}
 use Rattle.text.specs.declared.Found.the-variants.{Number}
-use Rattle.text.proofs.Numbers.{up-other, up-over, up-here, over}
+use Rattle.text.proofs.Numbers.{up-other, up-over, up-here, too-large}
 use Rattle.text.proofs.digits_up_to.Statement.{statement}
 use Rattle.text.proofs.digits_up_to.Tie as tie
 
@@ -51,14 +51,14 @@ returns-4 c =
     let s = c .before .before .before .before .before .before .before .before .before .args .s .now in
     let m = c .before .before .before .before .before .before .before .before .before .args .most in
     let l = c .before .before .before .before .before .before .loop in
-    up-over m s (omega (arith, l .inv .1, over m (l .n) s (l .i) (omega arith) (omega (arith, c .before .wide .ensures))))
+    up-over m s (omega (arith, l .inv .1, too-large m (l .n) s (l .i) (omega arith) (omega (arith, c .before .wide .ensures))))
 
 returns-5 : tie.Need-returns-5 Inv-loop μ-loop
 returns-5 c =
     let s = c .before .before .before .before .before .before .before .before .before .before .args .s .now in
     let m = c .before .before .before .before .before .before .before .before .before .before .args .most in
     let l = c .before .before .before .before .before .before .before .loop in
-    up-over m s (omega (arith, l .inv .1, over m (l .n) s (l .i) (omega arith) (omega (arith, c .before .before .wide .ensures))))
+    up-over m s (omega (arith, l .inv .1, too-large m (l .n) s (l .i) (omega arith) (omega (arith, c .before .before .wide .ensures))))
 
 mul-n : tie.Need-mul-n Inv-loop μ-loop
 mul-n c = omega arith
