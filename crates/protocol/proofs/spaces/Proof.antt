@@ -1,6 +1,3 @@
-use borrow.Author.Needs.{needs}
-use mathlib.Core.Path.{sym, ap}
-use mathlib.Core.Bool.{cond}
 use native.Mathlib.Omega.{arith}
 use borrow.Author.Tests.{eq-eqb, ne-eqb}
 use Rattle.protocol.proofs.spaces.Statement.{statement}
