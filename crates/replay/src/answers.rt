@@ -9,6 +9,26 @@ use refusal::Refusal;
 use tree::CITATION_LIMIT;
 use tree::CitedText;
 
+// What a request is answered: a number, a letter, a Paket's bounds, the first bytes of its text, or why not.
+pub enum Said {
+    NoRequest,
+    Fine,
+    Figure(u64),
+    Letter(u8),
+    Bounds(Paket),
+    Name(usize),
+    Refused(Refusal),
+}
+
+// What a request with a lent buffer is answered before the buffer.
+pub enum Lent {
+    NotLent,
+    Done(u64),
+    Alone(u8),
+    Stated { code: u8, length: usize },
+    Refused(Refusal),
+}
+
 fn decimal(out: &mut [u8], at: usize, n: u64) -> usize
     requires { ⌜ at + 20 ≤ length (now out) ⌝ }
     ensures { λ r. ⌜ r ≤ at + 20 ⌝ }
@@ -54,7 +74,7 @@ pub fn bad_request(out: &mut [u8]) -> usize
 }
 
 // ok
-pub fn fine(out: &mut [u8]) -> usize
+fn fine(out: &mut [u8]) -> usize
     requires { ⌜ HasRoom (now out) ⌝ }
     ensures { λ r. ⌜ r ≤ length (now (out .exit)) ⌝ }
 {
@@ -62,7 +82,7 @@ pub fn fine(out: &mut [u8]) -> usize
 }
 
 // A number.
-pub fn figure(out: &mut [u8], n: u64) -> usize
+fn figure(out: &mut [u8], n: u64) -> usize
     requires { ⌜ HasRoom (now out) ⌝ }
     ensures { λ r. ⌜ r ≤ length (now (out .exit)) ⌝ }
 {
@@ -71,7 +91,7 @@ pub fn figure(out: &mut [u8], n: u64) -> usize
 }
 
 // A letter.
-pub fn letter(out: &mut [u8], b: u8) -> usize
+fn letter(out: &mut [u8], b: u8) -> usize
     requires { ⌜ HasRoom (now out) ⌝ }
     ensures { λ r. ⌜ r ≤ length (now (out .exit)) ⌝ }
 {
@@ -79,7 +99,7 @@ pub fn letter(out: &mut [u8], b: u8) -> usize
 }
 
 // refused N
-pub fn refused(out: &mut [u8], why: Refusal) -> usize
+fn refused(out: &mut [u8], why: Refusal) -> usize
     requires { ⌜ HasRoom (now out) ⌝ }
     ensures { λ r. ⌜ r ≤ length (now (out .exit)) ⌝ }
 {
@@ -88,7 +108,7 @@ pub fn refused(out: &mut [u8], why: Refusal) -> usize
 }
 
 // refused N BUF
-pub fn turned_back(out: &mut [u8], why: Refusal, buf: &[u8]) -> usize
+fn turned_back(out: &mut [u8], why: Refusal, buf: &[u8]) -> usize
     requires { ⌜ HasRoom (now out) × Fits (now buf) ⌝ }
     ensures { λ r. ⌜ r ≤ length (now (out .exit)) ⌝ }
 {
@@ -97,7 +117,7 @@ pub fn turned_back(out: &mut [u8], why: Refusal, buf: &[u8]) -> usize
 }
 
 // ok N BUF
-pub fn done(out: &mut [u8], n: u64, buf: &[u8]) -> usize
+fn done(out: &mut [u8], n: u64, buf: &[u8]) -> usize
     requires { ⌜ HasRoom (now out) × Fits (now buf) ⌝ }
     ensures { λ r. ⌜ r ≤ length (now (out .exit)) ⌝ }
 {
@@ -106,7 +126,7 @@ pub fn done(out: &mut [u8], n: u64, buf: &[u8]) -> usize
 }
 
 // ok CODE none BUF
-pub fn alone(out: &mut [u8], code: u8, buf: &[u8]) -> usize
+fn alone(out: &mut [u8], code: u8, buf: &[u8]) -> usize
     requires { ⌜ HasRoom (now out) × Fits (now buf) ⌝ }
     ensures { λ r. ⌜ r ≤ length (now (out .exit)) ⌝ }
 {
@@ -116,7 +136,7 @@ pub fn alone(out: &mut [u8], code: u8, buf: &[u8]) -> usize
 }
 
 // ok CODE LENGTH BUF
-pub fn stated(out: &mut [u8], code: u8, n: usize, buf: &[u8]) -> usize
+fn stated(out: &mut [u8], code: u8, n: usize, buf: &[u8]) -> usize
     requires { ⌜ HasRoom (now out) × Fits (now buf) ⌝ }
     ensures { λ r. ⌜ r ≤ length (now (out .exit)) ⌝ }
 {
@@ -126,7 +146,7 @@ pub fn stated(out: &mut [u8], code: u8, n: usize, buf: &[u8]) -> usize
 }
 
 // ok LOW MARK HIGH
-pub fn bounds(out: &mut [u8], p: Paket) -> usize
+fn bounds(out: &mut [u8], p: Paket) -> usize
     requires { ⌜ HasRoom (now out) ⌝ }
     ensures { λ r. ⌜ r ≤ length (now (out .exit)) ⌝ }
 {
@@ -136,13 +156,43 @@ pub fn bounds(out: &mut [u8], p: Paket) -> usize
     put_byte(out, high, b'\n')
 }
 
-// ok NAME
-pub fn named(out: &mut [u8], name: &[u8]) -> usize
-    requires { ⌜ HasRoom (now out) × Fits (now name) ⌝ }
+// ok NAME, the first n bytes of a text
+fn named(out: &mut [u8], text: &[u8], n: usize) -> usize
+    requires { ⌜ HasRoom (now out) × Fits (now text) ⌝ }
     ensures { λ r. ⌜ r ≤ length (now (out .exit)) ⌝ }
 {
     let at = put_text(b"ok", out, 0);
-    with_field(out, at, name)
+    with_field(out, at, text::head(text, n))
+}
+
+// The answer to a request about a text.
+pub fn answer(out: &mut [u8], said: Said, text: &[u8]) -> usize
+    requires { ⌜ HasRoom (now out) × Fits (now text) ⌝ }
+    ensures { λ r. ⌜ r ≤ length (now (out .exit)) ⌝ }
+{
+    match said {
+        Said::NoRequest => bad_request(out),
+        Said::Fine => fine(out),
+        Said::Figure(n) => figure(out, n),
+        Said::Letter(b) => letter(out, b),
+        Said::Bounds(p) => bounds(out, p),
+        Said::Name(n) => named(out, text, n),
+        Said::Refused(why) => refused(out, why),
+    }
+}
+
+// The answer to a request that lends a buffer.
+pub fn answer_lent(out: &mut [u8], said: Lent, buf: &[u8]) -> usize
+    requires { ⌜ HasRoom (now out) × Fits (now buf) ⌝ }
+    ensures { λ r. ⌜ r ≤ length (now (out .exit)) ⌝ }
+{
+    match said {
+        Lent::NotLent => bad_request(out),
+        Lent::Done(n) => done(out, n, buf),
+        Lent::Alone(code) => alone(out, code, buf),
+        Lent::Stated { code, length } => stated(out, code, length, buf),
+        Lent::Refused(why) => turned_back(out, why, buf),
+    }
 }
 
 // A part of a tree after a comma, but for the first, where it stands in the tree and has room; the length so far.

@@ -4,6 +4,8 @@ ghost use lib.ListN.{length};
 ghost use Rattle.protocol.specs.Hex.{Within};
 ghost use Rattle.replay.specs.Rooms.{HasRoom, Fits, Line, Scratch, Ready};
 use super::answers;
+use super::answers::Lent;
+use super::answers::Said;
 use citation::ConditionKind;
 use citation::KindAnswer;
 use citation::Paket;
@@ -23,62 +25,39 @@ use refusal::Refusal;
 use verdicts::TruthAnswer;
 use verdicts::ViolationsAnswer;
 
-fn kind(text: &[u8], out: &mut [u8]) -> usize
-    requires { ⌜ HasRoom (now out) ⌝ }
-    ensures { λ r. ⌜ r ≤ length (now (out .exit)) ⌝ }
-{
+fn kind(text: &[u8]) -> Said {
     match ConditionKind::of(text) {
-        KindAnswer::Refused(why) => answers::refused(out, why),
-        KindAnswer::Known(k) => answers::figure(out, k.number() as u64),
+        KindAnswer::Refused(why) => Said::Refused(why),
+        KindAnswer::Known(k) => Said::Figure(k.number() as u64),
     }
 }
 
-fn paket(text: &[u8], out: &mut [u8]) -> usize
-    requires { ⌜ HasRoom (now out) ⌝ }
-    ensures { λ r. ⌜ r ≤ length (now (out .exit)) ⌝ }
-{
+fn paket(text: &[u8]) -> Said {
     match Paket::parse(text) {
-        PaketAnswer::Refused(why) => answers::refused(out, why),
-        PaketAnswer::Read(p) => answers::bounds(out, p),
+        PaketAnswer::Refused(why) => Said::Refused(why),
+        PaketAnswer::Read(p) => Said::Bounds(p),
     }
 }
 
-// ok NAME, the first n bytes of a text
-fn named(text: &[u8], n: usize, out: &mut [u8]) -> usize
-    requires { ⌜ HasRoom (now out) × Fits (now text) ⌝ }
-    ensures { λ r. ⌜ r ≤ length (now (out .exit)) ⌝ }
-{
-    answers::named(out, text::head(text, n))
-}
-
-fn name(text: &[u8], out: &mut [u8]) -> usize
-    requires { ⌜ HasRoom (now out) × Fits (now text) ⌝ }
-    ensures { λ r. ⌜ r ≤ length (now (out .exit)) ⌝ }
-{
+fn name(text: &[u8]) -> Said {
     match Paket::parse(text) {
-        PaketAnswer::Refused(why) => answers::refused(out, why),
-        PaketAnswer::Read(p) => named(text, p.name, out),
+        PaketAnswer::Refused(why) => Said::Refused(why),
+        PaketAnswer::Read(p) => Said::Name(p.name),
     }
 }
 
-fn registered(text: &[u8], out: &mut [u8]) -> usize
-    requires { ⌜ HasRoom (now out) ⌝ }
-    ensures { λ r. ⌜ r ≤ length (now (out .exit)) ⌝ }
-{
+fn registered(text: &[u8]) -> Said {
     match formats::is_registered(text) {
-        RegisteredAnswer::Refused(why) => answers::refused(out, why),
-        RegisteredAnswer::Known(is) => answers::figure(out, is as u64),
+        RegisteredAnswer::Refused(why) => Said::Refused(why),
+        RegisteredAnswer::Known(is) => Said::Figure(is as u64),
     }
 }
 
-fn tree(bytes: &[u8], out: &mut [u8]) -> usize
-    requires { ⌜ HasRoom (now out) ⌝ }
-    ensures { λ r. ⌜ r ≤ length (now (out .exit)) ⌝ }
-{
+fn tree(bytes: &[u8]) -> Said {
     if tree::is_tree(bytes) {
-        return answers::fine(out);
+        return Said::Fine;
     }
-    answers::refused(out, Refusal::NotATree)
+    Said::Refused(Refusal::NotATree)
 }
 
 fn letter_of(v: FormatVerdict) -> u8 {
@@ -89,148 +68,146 @@ fn letter_of(v: FormatVerdict) -> u8 {
     }
 }
 
-fn evaluate(text: &[u8], value: &[u8], out: &mut [u8]) -> usize
-    requires { ⌜ HasRoom (now out) ⌝ }
-    ensures { λ r. ⌜ r ≤ length (now (out .exit)) ⌝ }
-{
+fn evaluate(text: &[u8], value: &[u8]) -> Said {
     match formats::evaluate(text, value) {
-        VerdictAnswer::Refused(why) => answers::refused(out, why),
-        VerdictAnswer::Verdict(v) => answers::letter(out, letter_of(v)),
+        VerdictAnswer::Refused(why) => Said::Refused(why),
+        VerdictAnswer::Verdict(v) => Said::Letter(letter_of(v)),
     }
 }
 
-fn eval(tree: &[u8], given: &[u8], out: &mut [u8]) -> usize
-    requires { ⌜ HasRoom (now out) ⌝ }
-    ensures { λ r. ⌜ r ≤ length (now (out .exit)) ⌝ }
-{
+fn eval(tree: &[u8], given: &[u8]) -> Said {
     match presence::eval(tree, given) {
-        EvalAnswer::Refused(why) => answers::refused(out, why),
-        EvalAnswer::Value(v) => answers::figure(out, v.number() as u64),
+        EvalAnswer::Refused(why) => Said::Refused(why),
+        EvalAnswer::Value(v) => Said::Figure(v.number() as u64),
     }
 }
 
-fn truth(tree: &[u8], value: &[u8], out: &mut [u8]) -> usize
-    requires { ⌜ HasRoom (now out) ⌝ }
-    ensures { λ r. ⌜ r ≤ length (now (out .exit)) ⌝ }
-{
+fn truth(tree: &[u8], value: &[u8]) -> Said {
     match verdicts::truth(tree, value) {
-        TruthAnswer::Refused(why) => answers::refused(out, why),
-        TruthAnswer::Value(v) => answers::figure(out, v.number() as u64),
+        TruthAnswer::Refused(why) => Said::Refused(why),
+        TruthAnswer::Value(v) => Said::Figure(v.number() as u64),
     }
 }
 
-fn expr(text: &[u8], buf: &mut [u8], out: &mut [u8]) -> usize
-    requires { ⌜ HasRoom (now out) × Fits (now buf) ⌝ }
-    ensures { λ r. ⌜ r ≤ length (now (out .exit)) ⌝ }
-{
+fn expr(text: &[u8], buf: &mut [u8]) -> Lent {
     match Expr::parse(text, buf) {
-        ParseAnswer::Refused(why) => answers::turned_back(out, why, buf),
-        ParseAnswer::Length(k) => answers::done(out, k as u64, buf),
+        ParseAnswer::Refused(why) => Lent::Refused(why),
+        ParseAnswer::Length(k) => Lent::Done(k as u64),
     }
 }
 
-fn status(text: &[u8], buf: &mut [u8], out: &mut [u8]) -> usize
-    requires { ⌜ HasRoom (now out) × Fits (now buf) ⌝ }
-    ensures { λ r. ⌜ r ≤ length (now (out .exit)) ⌝ }
-{
+fn status(text: &[u8], buf: &mut [u8]) -> Lent {
     match Status::parse(text, buf) {
-        StatusAnswer::Refused(why) => answers::turned_back(out, why, buf),
-        StatusAnswer::Alone(kind) => answers::alone(out, kind.code(), buf),
-        StatusAnswer::Tree { kind, length } => answers::stated(out, kind.code(), length, buf),
+        StatusAnswer::Refused(why) => Lent::Refused(why),
+        StatusAnswer::Alone(kind) => Lent::Alone(kind.code()),
+        StatusAnswer::Tree { kind, length } => Lent::Stated {
+            code: kind.code(),
+            length: length,
+        },
     }
 }
 
-fn print(tree: &[u8], buf: &mut [u8], out: &mut [u8]) -> usize
-    requires { ⌜ HasRoom (now out) × Fits (now buf) ⌝ }
-    ensures { λ r. ⌜ r ≤ length (now (out .exit)) ⌝ }
-{
+fn print(tree: &[u8], buf: &mut [u8]) -> Lent {
     match printer::display(tree, buf) {
-        Displayed::Refused(why) => answers::turned_back(out, why, buf),
-        Displayed::Done(k) => answers::done(out, k as u64, buf),
+        Displayed::Refused(why) => Lent::Refused(why),
+        Displayed::Done(k) => Lent::Done(k as u64),
     }
 }
 
-fn pakete(tree: &[u8], buf: &mut [u8], out: &mut [u8]) -> usize
-    requires { ⌜ HasRoom (now out) × Fits (now buf) ⌝ }
-    ensures { λ r. ⌜ r ≤ length (now (out .exit)) ⌝ }
-{
+fn pakete(tree: &[u8], buf: &mut [u8]) -> Lent {
     match packages::pakete(tree, buf) {
-        PaketeAnswer::Refused(why) => answers::turned_back(out, why, buf),
-        PaketeAnswer::Rows(k) => answers::done(out, k as u64, buf),
+        PaketeAnswer::Refused(why) => Lent::Refused(why),
+        PaketeAnswer::Rows(k) => Lent::Done(k as u64),
     }
 }
 
-fn violations(tree: &[u8], value: &[u8], buf: &mut [u8], out: &mut [u8]) -> usize
-    requires { ⌜ HasRoom (now out) × Fits (now buf) ⌝ }
-    ensures { λ r. ⌜ r ≤ length (now (out .exit)) ⌝ }
-{
+fn violations(tree: &[u8], value: &[u8], buf: &mut [u8]) -> Lent {
     match verdicts::violations(tree, value, buf) {
-        ViolationsAnswer::Refused(why) => answers::turned_back(out, why, buf),
-        ViolationsAnswer::Count(c) => answers::done(out, c as u64, buf),
+        ViolationsAnswer::Refused(why) => Lent::Refused(why),
+        ViolationsAnswer::Count(c) => Lent::Done(c as u64),
     }
 }
 
 // The requests of one field.
-fn with_one(word: &[u8], s: &[u8], out: &mut [u8]) -> usize
-    requires { ⌜ HasRoom (now out) × Fits (now s) ⌝ }
-    ensures { λ r. ⌜ r ≤ length (now (out .exit)) ⌝ }
-{
+fn with_one(word: &[u8], s: &[u8]) -> Said {
     if text::same_bytes(word, b"kind") {
-        return kind(s, out);
+        return kind(s);
     }
     if text::same_bytes(word, b"paket") {
-        return paket(s, out);
+        return paket(s);
     }
     if text::same_bytes(word, b"name") {
-        return name(s, out);
+        return name(s);
     }
     if text::same_bytes(word, b"registered") {
-        return registered(s, out);
+        return registered(s);
     }
     if text::same_bytes(word, b"tree") {
-        return tree(s, out);
+        return tree(s);
     }
-    if text::same_bytes(word, b"cited") {
-        return answers::texts(s, out);
-    }
-    answers::bad_request(out)
+    Said::NoRequest
 }
 
 // The requests of two fields, neither of them lent.
-fn with_two(word: &[u8], s: &[u8], t: &[u8], out: &mut [u8]) -> usize
-    requires { ⌜ HasRoom (now out) ⌝ }
-    ensures { λ r. ⌜ r ≤ length (now (out .exit)) ⌝ }
-{
+fn with_two(word: &[u8], s: &[u8], t: &[u8]) -> Said {
     if text::same_bytes(word, b"evaluate") {
-        return evaluate(s, t, out);
+        return evaluate(s, t);
     }
     if text::same_bytes(word, b"eval") {
-        return eval(s, t, out);
+        return eval(s, t);
     }
     if text::same_bytes(word, b"truth") {
-        return truth(s, t, out);
+        return truth(s, t);
     }
-    answers::bad_request(out)
+    Said::NoRequest
 }
 
 // The requests of a field and a lent buffer.
-fn with_lent(word: &[u8], s: &[u8], buf: &mut [u8], out: &mut [u8]) -> usize
+fn with_lent(word: &[u8], s: &[u8], buf: &mut [u8]) -> Lent {
+    if text::same_bytes(word, b"expr") {
+        return expr(s, buf);
+    }
+    if text::same_bytes(word, b"status") {
+        return status(s, buf);
+    }
+    if text::same_bytes(word, b"print") {
+        return print(s, buf);
+    }
+    if text::same_bytes(word, b"pakete") {
+        return pakete(s, buf);
+    }
+    Lent::NotLent
+}
+
+// The answer to a request of one field.
+fn answer_one(word: &[u8], s: &[u8], out: &mut [u8]) -> usize
+    requires { ⌜ HasRoom (now out) × Fits (now s) ⌝ }
+    ensures { λ r. ⌜ r ≤ length (now (out .exit)) ⌝ }
+{
+    if text::same_bytes(word, b"cited") {
+        return answers::texts(s, out);
+    }
+    answers::answer(out, with_one(word, s), s)
+}
+
+// The answer to a request of two fields.
+fn answer_two(word: &[u8], s: &[u8], buf: &mut [u8], out: &mut [u8]) -> usize
     requires { ⌜ HasRoom (now out) × Fits (now buf) ⌝ }
     ensures { λ r. ⌜ r ≤ length (now (out .exit)) ⌝ }
 {
-    if text::same_bytes(word, b"expr") {
-        return expr(s, buf, out);
+    match with_lent(word, s, buf) {
+        Lent::NotLent => answers::answer(out, with_two(word, s, buf), buf),
+        said => answers::answer_lent(out, said, buf),
     }
-    if text::same_bytes(word, b"status") {
-        return status(s, buf, out);
-    }
-    if text::same_bytes(word, b"print") {
-        return print(s, buf, out);
-    }
-    if text::same_bytes(word, b"pakete") {
-        return pakete(s, buf, out);
-    }
-    with_two(word, s, buf, out)
+}
+
+// The answer to the request of three fields.
+fn answer_three(tree: &[u8], value: &[u8], buf: &mut [u8], out: &mut [u8]) -> usize
+    requires { ⌜ HasRoom (now out) × Fits (now buf) ⌝ }
+    ensures { λ r. ⌜ r ≤ length (now (out .exit)) ⌝ }
+{
+    let said = violations(tree, value, buf);
+    answers::answer_lent(out, said, buf)
 }
 
 // A field of the line, at the start of a scratch slice.
@@ -250,7 +227,7 @@ fn one_field(line: &[u8], first: &mut [u8], out: &mut [u8]) -> usize
         return answers::bad_request(out);
     }
     let n = one.len;
-    with_one(protocol::piece(line, 0), &first[..n], out)
+    answer_one(protocol::piece(line, 0), &first[..n], out)
 }
 
 fn two_fields(line: &[u8], first: &mut [u8], second: &mut [u8], out: &mut [u8]) -> usize
@@ -267,7 +244,7 @@ fn two_fields(line: &[u8], first: &mut [u8], second: &mut [u8], out: &mut [u8]) 
     }
     let n = one.len;
     let m = two.len;
-    with_lent(protocol::piece(line, 0), &first[..n], &mut second[..m], out)
+    answer_two(protocol::piece(line, 0), &first[..n], &mut second[..m], out)
 }
 
 // The one request of two fields and a lent buffer.
@@ -285,7 +262,7 @@ fn listed(line: &[u8], first: &mut [u8], second: &mut [u8], buf: &mut [u8], out:
     }
     let n = one.len;
     let m = two.len;
-    violations(&first[..n], &second[..m], buf, out)
+    answer_three(&first[..n], &second[..m], buf, out)
 }
 
 fn three_fields(
