@@ -18,9 +18,9 @@ const LONGEST_SAMPLE: usize = 400;
 /// Requests kept of those that are answered alike.
 const OF_A_CONDITION: usize = 24;
 const OF_A_BOUNDARY: usize = 100;
-const OF_A_FUNCTION: usize = 80;
+const OF_A_FUNCTION: usize = 70;
 /// Bytes of the whole list, requests and answers.
-const MOST_BYTES: usize = 3 << 20;
+const MOST_BYTES: usize = 2 << 20;
 
 struct Entry {
     section: &'static str,
