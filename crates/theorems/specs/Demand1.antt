@@ -10,7 +10,7 @@ use lib.Dec.{leb, ltb, eqb}
 use lib.ListN.{length, take, drop}
 use borrow.Author.Tests.{lt-leb}
 use Rattle.laws.specs.Tests.{cond-both}
-use Rattle.refusal.specs.Result.{Result, ok, refused, refuse, unless, then, map-ok}
+use Rattle.refusal.specs.Result.{ok, refused, refuse, then, map-ok}
 use Rattle.refusal.specs.declared.Refusal.{Refusal}
 use Rattle.refusal.specs.declared.Refusal.the-variants.{TooManyCitations, WrongAnswers, NotAPaket}
 use Rattle.refusal.specs.Known.{Known, unless-among, among-known, map-known, then-known}
@@ -27,11 +27,11 @@ use Rattle.formats.specs.Table.{verdict, isRegistered}
 use Rattle.formats.specs.Answers.{verdictAnswer, registeredAnswer}
 use Rattle.status.specs.declared.StatusKind.{StatusKind}
 use Rattle.status.specs.Status.{kindOfWord}
-use Rattle.grammar.specs.Expr.{Expr, concat}
+use Rattle.grammar.specs.Expr.{concat}
 use Rattle.grammar.specs.Lex.{Tok, lex, texts}
 use Rattle.grammar.specs.Print.{printed}
 use Rattle.grammar.specs.Reading.{citationLimit, citedLimit, someToken, few, tree, expression, reading}
-use Rattle.grammar.specs.Status.{words, joined, stated, afterWord, ofWords, statusReading}
+use Rattle.grammar.specs.Status.{words, joined, afterWord, ofWords, statusReading}
 use Rattle.grammar.specs.Bytes.{treeOf}
 use Rattle.grammar.specs.Known.{admitted-among, tree-of-known}
 use Rattle.grammar.specs.Outcome as outcome
@@ -42,7 +42,7 @@ use Rattle.semantics.specs.Truth.{truth}
 use Rattle.semantics.specs.Answers.{presenceBy, evalAnswer, truthAnswer, violationsAnswer, evalAndTruthAnswer, rowed, paketeAnswer}
 use Rattle.semantics.specs.Known.{presence-known, eval-known, truth-known}
 use Rattle.tree.specs.Cited.{citedPlace, citedAnswer}
-use Rattle.ahb.specs.Sizes.{Short, ShortStatus, Few, CountFew, answer-among, parse-among, status-among, violations-among}
+use Rattle.ahb.specs.Sizes.{Short, ShortStatus, Few, answer-among, parse-among, status-among, violations-among}
 
 -- Lent memory.
 
