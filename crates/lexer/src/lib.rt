@@ -1,7 +1,5 @@
 // From a text in UTF-8 to tokens: a byte a token, the place of each citation's text, and the tests that come before parsing. For a status, its first word and its other words joined.
-use fields::put_text;
 use refusal::Refusal;
-use text::between;
 use utf8::Step;
 ghost use mathlib.Core.Path.{_≡_};
 ghost use mathlib.Core.Bool.{true, false};
@@ -420,15 +418,48 @@ pub fn first_word(text: &[u8]) -> Span
     }
 }
 
+// Copies `len` bytes of `text` from `from` on to `to`; most often one byte.
+fn copy_part(text: &[u8], from: usize, len: usize, out: &mut [u8], to: usize)
+    requires { ⌜ (from + len ≤ length (now text)) × (to + len ≤ length (now out)) ⌝ }
+    ensures { λ _. ⌜ Appended (take len (drop from (now (text .entry)))) to (now (out .entry)) (now (out .exit)) (to + len) ⌝ }
+{
+    if len == 1 {
+        out[to] = text[from];
+        return;
+    }
+    let mut j = 0;
+    while j < len {
+        out[to + j] = text[from + j];
+        j += 1;
+    }
+}
+
 // Copies the word that begins at `at` to `to`; the place after it in `text`.
 fn copy_word(text: &[u8], at: usize, out: &mut [u8], to: usize) -> usize
-    requires { ⌜ (runEnd false (now text) at ≤ length (now text)) × (to + (runEnd false (now text) at - at) ≤ length (now out)) ⌝ }
+    requires { ⌜ to + (runEnd false (now text) at - at) ≤ length (now out) ⌝ }
     ensures { λ r. ⌜ r ≡ runEnd false (now (text .entry)) at ⌝ }
     ensures { λ r. ⌜ Appended (take (r - at) (drop at (now (text .entry)))) to (now (out .entry)) (now (out .exit)) (to + (r - at)) ⌝ }
 {
-    let end = run_end(text, at, false);
-    put_text(between(text, at, end - at), out, to);
-    end
+    let mut i = at;
+    while i < text.len() {
+        let here = utf8::step_at(text, i);
+        match here {
+            Step::Char { code, width } => {
+                if utf8::is_white(code) {
+                    return i;
+                }
+                copy_part(text, i, width, out, to + (i - at));
+                i += width;
+            }
+            Step::Bad => {
+                return i;
+            }
+            Step::End => {
+                return i;
+            }
+        }
+    }
+    i
 }
 
 // A space after the `n` bytes of joined words, if there are any; how many bytes are then written.

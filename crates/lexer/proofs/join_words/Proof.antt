@@ -23,7 +23,7 @@ add-gap-requires : tie.Need-add-gap-requires Inv-loop μ-loop
 add-gap-requires c κs = let i = c .before .before .loop .inv in let h = i .1 in omega (arith, word-fits h (omega arith) _ refl, word-later h (omega arith) _ refl, word-room h (omega arith) _ refl, i .0, (c .before .before .before .before .before .before .pre) .1)
 
 copy-word-requires : tie.Need-copy-word-requires Inv-loop μ-loop
-copy-word-requires c κs = let i = c .before .before .before .before .before .before .loop .inv in let h = i .1 in (word-room h (omega arith) _ refl, omega (arith, word-fits h (omega arith) _ refl, word-later h (omega arith) _ refl, word-room h (omega arith) _ refl, i .0, (c .before .before .before .before .before .before .before .before .before .before .pre) .1, c .before .before .before .add-gap .ensures .ends, c .before .before .before .add-gap .kept .0))
+copy-word-requires c κs = let i = c .before .before .before .before .before .before .loop .inv in let h = i .1 in omega (arith, word-fits h (omega arith) _ refl, word-later h (omega arith) _ refl, word-room h (omega arith) _ refl, i .0, (c .before .before .before .before .before .before .before .before .before .before .pre) .1, c .before .before .before .add-gap .ensures .ends, c .before .before .before .add-gap .kept .0)
 
 sub-n : tie.Need-sub-n Inv-loop μ-loop
 sub-n c = let i = c .before .before .before .before .before .before .before .before .before .loop .inv in let h = i .1 in let a = c .before .before .before .before .before .before .add-gap .ensures in let w = c .before .before .copy-word .ensures in let e = w .0 in omega (arith, word-later h (omega arith) _ e)
