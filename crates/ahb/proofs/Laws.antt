@@ -29,7 +29,7 @@ module _ {A B : Type 0} (f : A → B) where
   said-number least number (refused k) n = refl
 
   -- and the same bytes
-  said-written : (r : Outcome A) (old : List ℕ) → writtenOf (map-ok (saidBy f) r) old ≡ writtenOf r old
+  pub said-written : (r : Outcome A) (old : List ℕ) → writtenOf (map-ok (saidBy f) r) old ≡ writtenOf r old
   unfolding writtenOf map-ok
   said-written (ok w) old = refl
   said-written (refused k) old = refl

@@ -14,6 +14,7 @@ use Rattle.semantics.specs.Answers.{evalAnswer}
 use Rattle.ahb.specs.Numbers.{acceptedFrom, codeStep, coded, ReadSaid, expression, status, readNumber, presenceNumber, verdictNumber}
 use Rattle.ahb.specs.Answers.{saidBy, readAnswer, verdictsAnswer}
 use Rattle.ahb.specs.Determined.{ShortSaid, read-among}
+use Rattle.ahb.proofs.Laws.{said-written}
 use Rattle.theorems.specs.Demand3.{Held, byExpression, byStatus, flatTree, AnswersAlike, held-promised}
 
 -- what a tree and another are answered alike, in these numbers and in the bytes of a lent list
@@ -46,21 +47,11 @@ module _ {A B : Type 0} (f : A → B) where
       by false = refl
   said-answer (refused k) n = refl
 
-  -- and the bytes that go with it
-  said-written : (o : Outcome A) (old : List ℕ) → writtenOf (map-ok (saidBy f) o) old ≡ writtenOf o old
-  unfolding writtenOf map-ok
-  said-written (ok w) old = refl
-  said-written (refused k) old = refl
-
-map-said : (r : Result ℕ) (x : ReadSaid) → map-ok expression r ≡ ok x → (m : ℕ) × (r ≡ ok m) × (expression m ≡ x)
-unfolding map-ok
-map-said (ok m) x h = let same : expression m ≡ x = cc in (m, refl, same)
-map-said (refused k) x h = absurd (refused≢ok h)
-
-map-status : (r : Result StatusSaid) (x : ReadSaid) → map-ok status r ≡ ok x → (m : StatusSaid) × (r ≡ ok m) × (status m ≡ x)
-unfolding map-ok
-map-status (ok m) x h = let same : status m ≡ x = cc in (m, refl, same)
-map-status (refused k) x h = absurd (refused≢ok h)
+  -- what an answer that is said otherwise was
+  map-said : (r : Result A) (x : B) → map-ok f r ≡ ok x → (a : A) × (r ≡ ok a) × (f a ≡ x)
+  unfolding map-ok
+  map-said (ok a) x h = let same : f a ≡ x = cc in (a, refl, same)
+  map-said (refused k) x h = absurd (refused≢ok h)
 
 -- what was read has a tree of so many bytes
 abbrev Sized : ReadSaid → ℕ → Type 0
@@ -80,14 +71,14 @@ module _ (s buffer : List ℕ) (n : ℕ) where
   expression-kept : (x : ReadSaid) → Sized x n → answerOf (map-ok (saidBy expression) (parseAnswer s)) (length buffer) ≡ ok x
       → Held (take n (writtenOf (map-ok (saidBy expression) (parseAnswer s)) buffer))
   expression-kept x z h =
-      let m = map-said (answerOf (parseAnswer s) (length buffer)) x (sym (said-answer expression (parseAnswer s) (length buffer)) ∙ h) in
+      let m = map-said expression (answerOf (parseAnswer s) (length buffer)) x (sym (said-answer expression (parseAnswer s) (length buffer)) ∙ h) in
       let y : Sized (expression (m .0)) n = subst (λ u. Sized u n) (sym (m .2)) z in
       subst (λ b. Held (take n b)) (sym (said-written expression (parseAnswer s) buffer)) (byExpression s buffer n (m .1 ∙ ap ok y))
 
   status-kept : (x : ReadSaid) → Sized x n → answerOf (map-ok (saidBy status) (statusAnswer s)) (length buffer) ≡ ok x
       → Held (take n (writtenOf (map-ok (saidBy status) (statusAnswer s)) buffer))
   status-kept x z h =
-      let m = map-status (answerOf (statusAnswer s) (length buffer)) x (sym (said-answer status (statusAnswer s) (length buffer)) ∙ h) in
+      let m = map-said status (answerOf (statusAnswer s) (length buffer)) x (sym (said-answer status (statusAnswer s) (length buffer)) ∙ h) in
       subst (λ b. Held (take n b)) (sym (said-written status (statusAnswer s) buffer)) (go (m .0) (m .1) (subst (λ u. Sized u n) (sym (m .2)) z))
     where
       go : (y : StatusSaid) → answerOf (statusAnswer s) (length buffer) ≡ ok y → Sized (status y) n → Held (take n (writtenOf (statusAnswer s) buffer))
