@@ -1,8 +1,9 @@
 //! Who is asked: the original, unless a rule takes the request out of the comparison by a test on its input; then the model.
 
-use crate::model;
+use crate::model::{self, kinds::number};
 use crate::oracle::{self, Answer, Origin};
 use crate::request::{self, BAD_REQUEST, Function};
+use crate::tree;
 
 /// Why requests are taken out, in the words of the summary.
 pub type Reason = &'static str;
@@ -27,8 +28,59 @@ pub struct Asked {
     pub model: Model,
 }
 
-/// No request is taken out.
-pub const ASKED: Asked = Asked { rules: &[], model: model::answer };
+/// The original has 900 among the Format numbers. Where it is cited, what kinds decide is the model's; reading, printing and
+/// package rows are not decided by it.
+const NINE_HUNDRED: [Rule; 3] = [
+    Rule { reason: "the kind of a number equal to 900", covers: kind_of_900, still: Some(was_format) },
+    Rule {
+        reason: "presence and violations where a number equal to 900 is cited",
+        covers: listed_with_900,
+        still: Some(|model, original| model == original),
+    },
+    Rule {
+        reason: "format truth where a number equal to 900 is cited",
+        covers: truth_with_900,
+        still: Some(was_unknown),
+    },
+];
+
+pub const ASKED: Asked = Asked { rules: &NINE_HUNDRED, model: model::answer };
+
+fn kind_of_900(function: Function, fields: &[&[u8]]) -> bool {
+    function == Function::Kind && str::from_utf8(fields[0]).is_ok_and(is_900)
+}
+
+fn listed_with_900(function: Function, fields: &[&[u8]]) -> bool {
+    matches!(function, Function::Eval | Function::Violations) && cites_900(fields[0])
+}
+
+fn truth_with_900(function: Function, fields: &[&[u8]]) -> bool {
+    function == Function::Truth && cites_900(fields[0])
+}
+
+fn is_900(text: &str) -> bool {
+    number(text) == Some(900)
+}
+
+/// Whether a tree cites such a number; each ends in these three digits.
+fn cites_900(tree: &[u8]) -> bool {
+    tree.windows(3).any(|three| three == b"900")
+        && tree::decode(tree).is_some_and(|expr| expr.cited().into_iter().any(is_900))
+}
+
+fn said(answer: &Answer, word: &str) -> bool {
+    answer.as_ref().is_ok_and(|(words, _)| words == word)
+}
+
+/// Other, and Format for the original.
+fn was_format(model: &Answer, original: &Answer) -> bool {
+    model == original || said(model, "6") && said(original, "2")
+}
+
+/// As the original's, or True where that is Unknown.
+fn was_unknown(model: &Answer, original: &Answer) -> bool {
+    model == original || said(model, "2") && said(original, "1")
+}
 
 impl Asked {
     /// The first rule that takes a request out; where there is none the original is asked.
@@ -100,6 +152,25 @@ mod tests {
         assert_eq!(said(ASKED, "kind 393031"), (Ok(Origin::Rust), "2".to_owned()));
         assert_eq!(said(made_up::ASKED, "kind 383031"), (Ok(Origin::Rust), "1".to_owned()));
         assert_eq!(said(made_up::ASKED, "registered 393032"), (Ok(Origin::Rust), "1".to_owned()));
+    }
+
+    #[test]
+    fn nine_hundred_is_taken_out() {
+        let asked = |line: &str| said(ASKED, line);
+        for spelt in ["393030", "30393030", "2b393030"] {
+            let (origin, answer) = asked(&format!("kind {spelt}"));
+            assert_eq!((origin, answer.as_str()), (Ok(Origin::Model(NINE_HUNDRED[0].reason)), "6"));
+        }
+        let tree =
+            tree::encode(&crate::original::conditions::Expr::parse("[0900] ∨ [902]").expect("an expression"));
+        let (truth, list) = (NINE_HUNDRED[2].reason, NINE_HUNDRED[1].reason);
+        let due = |reason, word: &str| Ok((Ok((word.to_owned(), Vec::new())), Origin::Model(reason)));
+        assert_eq!(ASKED.ask(Function::Truth, &[&tree, b"-1"]), due(truth, "2"));
+        assert_eq!(ASKED.ask(Function::Violations, &[&tree, b"-1", b""]), due(list, "ok 0"));
+        assert_eq!(ASKED.ask(Function::Eval, &[&tree, &[3, 3]]), due(list, "3"));
+        let other =
+            tree::encode(&crate::original::conditions::Expr::parse("[1900] ∨ [902]").expect("an expression"));
+        assert_eq!(ASKED.ask(Function::Truth, &[&other, b"-1"]).map(|(_, origin)| origin), Ok(Origin::Rust));
     }
 
     #[test]

@@ -151,11 +151,11 @@ fn utf8(bytes: &[u8], longest: usize) -> Result<&str, u8> {
     std::str::from_utf8(bytes).map_err(|_| NOT_UTF8)
 }
 
-fn text(bytes: &[u8]) -> Result<&str, u8> {
+pub fn text(bytes: &[u8]) -> Result<&str, u8> {
     utf8(bytes, LONGEST_TEXT)
 }
 
-fn value(bytes: &[u8]) -> Result<&str, u8> {
+pub fn value(bytes: &[u8]) -> Result<&str, u8> {
     utf8(bytes, LONGEST_VALUE)
 }
 

@@ -39,7 +39,10 @@ fn kinds(all: &mut Examples) {
         ("499", "0"),
         ("500", "1"),
         ("899", "1"),
-        ("900", "2"),
+        ("900", "6"),
+        ("0900", "6"),
+        ("+900", "6"),
+        ("901", "2"),
         ("999", "2"),
         ("1000", "6"),
         ("1999", "6"),
@@ -238,6 +241,22 @@ fn judgements(all: &mut Examples) {
     say(all, Function::Truth, &[&program, b"0"], "0");
     say(all, Function::Violations, &[&program, b"0", &[9; 5]], "ok 2 0100030009");
     say(all, Function::Violations, &[&program, b"0", &[9; 3]], "refused 14 090909");
+    nine_hundred(all);
+}
+
+/// 900 is of kind Other: it neither gates nor is judged.
+fn nine_hundred(all: &mut Examples) {
+    for spelt in ["900", "0900", "+900"] {
+        let one = tree(&[(0, 0, 1)], &[spelt]);
+        say(all, Function::Truth, &[&one, b"0"], "2");
+        say(all, Function::Violations, &[&one, b"0", b""], "ok 0 -");
+        say(all, Function::Eval, &[&one, &[1]], "1");
+    }
+    let joined = |kind, texts: [&str; 2]| tree(&[(kind, 2, 3), (0, 0, 1), (0, 1, 1)], &texts);
+    say(all, Function::Truth, &[&joined(3, ["900", "902"]), b"-1"], "2");
+    say(all, Function::Truth, &[&joined(2, ["900", "951"]), b"0"], "1");
+    say(all, Function::Violations, &[&joined(2, ["900", "902"]), b"-1", &[9; 3]], "ok 1 010009");
+    say(all, Function::Eval, &[&joined(3, ["1", "900"]), &[2, 3]], "refused 7");
 }
 
 fn presences(all: &mut Examples, program: &[u8]) {

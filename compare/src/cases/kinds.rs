@@ -65,7 +65,7 @@ fn wrapped(cases: &mut Cases) {
 
 fn leading_zeros(cases: &mut Cases) {
     let lengths = [0, 1, 2, 3, 7, 8, 9, 10, 11, 18, 19, 20, 21, 40, 255, 256, 1_000, 4_000];
-    let bounds = [0, 1, 499, 500, 899, 900, 999, 1_000, 1_999, 2_000, 2_499, 2_500, u32::MAX];
+    let bounds = [0, 1, 499, 500, 899, 900, 901, 999, 1_000, 1_999, 2_000, 2_499, 2_500, u32::MAX];
     for zeros in lengths {
         for bound in bounds {
             for sign in ["", "+", "-", "UB", "P"] {

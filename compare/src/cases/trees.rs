@@ -91,6 +91,7 @@ pub fn trees(cases: &mut Cases) {
     changed_bytes(cases);
     wrong_parts(cases);
     random_rows(cases);
+    nine_hundred(cases);
 }
 
 /// Every tree shape of so many leaves, its citations blank.
@@ -135,6 +136,38 @@ fn digits(mut number: usize, base: usize, leaves: usize) -> Vec<usize> {
         number /= base;
     }
     all
+}
+
+/// A citation of 900, spelt in each way, alone and beside a condition of each kind, with every answer and some values.
+fn nine_hundred(cases: &mut Cases) {
+    let beside = ["1", "500", "901", "902", "951", "2000", "UB1", "1P", "1000", "900"];
+    for spelt in ["900", "0900", "+900", "+0900"] {
+        let cited = Expr::Cond(spelt.to_owned());
+        ask_each(cases, &cited);
+        for (other, kind) in beside.iter().flat_map(|other| (1..=4).map(move |kind| (other, kind))) {
+            let other = Expr::Cond((*other).to_owned());
+            for operands in [vec![cited.clone(), other.clone()], vec![other.clone(), cited.clone()]] {
+                ask_each(cases, &node(kind, operands).expect("an inner node"));
+            }
+        }
+    }
+}
+
+/// Asks with every answer, equal for equal texts, and with some values and buffers.
+fn ask_each(cases: &mut Cases, expr: &Expr) {
+    let (tree, cited) = (encode(expr), expr.cited());
+    for number in 0..5_usize.pow(cited.len() as u32) {
+        let answers: Vec<u8> = digits(number, 5, cited.len()).into_iter().map(|one| one as u8).collect();
+        if cited.windows(2).all(|two| two[0] != two[1]) || answers.windows(2).all(|two| two[0] == two[1]) {
+            cases.ask(Eval, &[&tree, &answers]);
+        }
+    }
+    for value in ["0", "-1", "202603292200+00"] {
+        cases.ask(Truth, &[&tree, value.as_bytes()]);
+        for room in 0..=4 {
+            cases.ask(Violations, &[&tree, value.as_bytes(), &[0xAA; 4][..room]]);
+        }
+    }
 }
 
 /// One node over four citations that gate, with every answer.

@@ -10,7 +10,7 @@ use Rattle.refusal.specs.Result.{ok, refused, unless, unless-ok}
 use Rattle.refusal.specs.declared.Refusal.the-variants.{NoRoom, NotATree}
 use Rattle.refusal.specs.Known.{Among, unless-among, known-among, map-among, then-among}
 use Rattle.utf8.specs.Limits.{valueLimit, admitted}
-use Rattle.grammar.specs.Expr.{Expr, count}
+use Rattle.grammar.specs.Expr.{Expr}
 use Rattle.grammar.specs.Reading.{citationLimit, Fits, reading, reading-given}
 use Rattle.grammar.specs.Status.{Stated, alone, stated, statusReading}
 use Rattle.grammar.specs.StatusLaws.{status-states}
@@ -19,8 +19,8 @@ use Rattle.grammar.specs.Theorems.{bytes-length, few-bytes}
 use Rattle.grammar.specs.Outcome.{Written, Outcome, answerOf, StatusSaid, wordAlone, withTree, statedBytes, parseAnswer, statusAnswer}
 use Rattle.grammar.specs.Known.{admitted-among, reading-known, status-known, tree-of-known}
 use Rattle.semantics.specs.Rules.{isFalse}
-use Rattle.semantics.specs.Truth.{truth}
-use Rattle.semantics.specs.Violations.{violated, violations}
+use Rattle.semantics.specs.Truth.{countsOn, truth}
+use Rattle.semantics.specs.Violations.{violated, violationsWith, violations}
 use Rattle.semantics.specs.Sizes.{violated-few}
 use Rattle.semantics.specs.Answers.{numbered, violationsAnswer}
 use Rattle.tree.proofs.Walks.{root}
@@ -80,9 +80,9 @@ abbrev pub Few : ℕ → Type 0
 Few n = n ≤ citationLimit
 
 violations-few : (value : List ℕ) (e : Expr) → Fits e → Few (length (violations value e))
-unfolding violations
+unfolding violationsWith
 violations-few value e f =
-    cond-both (λ (l : List ℕ). Few (length l)) (isFalse (truth value e)) (violated value 0 e) [] (λ _. omega (arith, violated-few value 0 e, f .few)) λ _. omega arith
+    cond-both (λ (l : List ℕ). Few (length l)) (isFalse (truth value e)) (violated (countsOn value) 0 e) [] (λ _. omega (arith, violated-few (countsOn value) 0 e, f .few)) λ _. omega arith
 
 -- a tree is that of an expression that fits the limits
 pub tree-fits : (b : List ℕ) (e : Expr) → treeOf b ≡ ok e → Fits e

@@ -1,9 +1,9 @@
 -- The kind of a citation (docs/SEMANTICS.md, 'Kinds of citations'). Assumes nothing.
 use lib.ListN.{getD}
-use mathlib.Core.Path.{refl, ap}
+use mathlib.Core.Path.{_≡_, refl, ap}
 use mathlib.Mathlib.Logic.Function.Defs.{Injective, LeftInverse, LeftInverse·injective}
 use Prim.Native.Nat.{ℕ}
-use mathlib.Core.List.{List, [], _∷_}
+use mathlib.Core.List.{List, [], _∷_, map}
 use mathlib.Core.Bool.{cond}
 use Rattle.refusal.specs.Refusals.{number-back}
 use Rattle.refusal.specs.Result.{Result, ok, refuse, said-injective}
@@ -52,9 +52,15 @@ unfoldable pub kindOfNumber : ℕ → ConditionKind
 kindOfNumber n =
     cond (within 1 499 n) Voraussetzung
     (cond (within 500 899 n) Hinweis
-    (cond (within 900 999 n) Format
+    (cond (within 901 999 n) Format
     (cond (within 2000 2499 n) Wiederholbarkeit
     Other)))
+
+-- at the ends of the ranges, from both sides
+pub range-ends : map kindOfNumber (0 ∷ 1 ∷ 499 ∷ 500 ∷ 899 ∷ 900 ∷ 901 ∷ 999 ∷ 1000 ∷ 1999 ∷ 2000 ∷ 2499 ∷ 2500 ∷ [])
+    ≡ Other ∷ Voraussetzung ∷ Voraussetzung ∷ Hinweis ∷ Hinweis ∷ Other ∷ Format ∷ Format ∷ Other ∷ Other ∷ Wiederholbarkeit ∷ Wiederholbarkeit ∷ Other ∷ []
+unfolding kindOfNumber
+range-ends = refl
 
 -- the largest number that a citation can name
 abbrev pub largestNumber : ℕ

@@ -114,7 +114,7 @@ impl ConditionKind {
         match n {
             1..=499 => ConditionKind::Voraussetzung,
             500..=899 => ConditionKind::Hinweis,
-            900..=999 => ConditionKind::Format,
+            901..=999 => ConditionKind::Format,
             2000..=2499 => ConditionKind::Wiederholbarkeit,
             _ => ConditionKind::Other,
         }

@@ -14,8 +14,8 @@ use Rattle.grammar.specs.Reading.{citationLimit, Fits}
 use Rattle.grammar.specs.Bytes.{twoBytes, field, cites, textsIn}
 use Rattle.grammar.specs.Pack.{got}
 use Rattle.semantics.specs.Rules.{isFalse}
-use Rattle.semantics.specs.Truth.{citedTruth, truth}
-use Rattle.semantics.specs.Violations.{violated, violatedOf, violations, numberBytes}
+use Rattle.semantics.specs.Truth.{Counts, truthWith}
+use Rattle.semantics.specs.Violations.{violated, violatedOf, violationsWith, numberBytes}
 use Rattle.semantics.specs.Sizes.{violated-few}
 use Rattle.fields.specs.Appended.{Appended}
 use Rattle.fields.proofs.Appends.{nothing, both, same}
@@ -54,20 +54,20 @@ one-size texts n t false e = omega arith
 text-here : (texts : List (List ℕ)) (n : ℕ) (t : List ℕ) (rest : List (List ℕ)) → drop n texts ≡ t ∷ rest → getD texts n [] ≡ t
 text-here texts n t rest h = sym (rw add-zero at (getD-drop n texts 0 [])) ∙ rw h
 
-module _ (value : List ℕ) where
+module _ (counts : Counts) where
   mutual
     unfolding violated citations
 
-    violated-below : (m n : ℕ) (e : Expr) → n + count e ≤ m → AllBelow m (violated value n e)
-    violated-below m n (cite t) h = one-below m n (isFalse (citedTruth value t)) (omega arith)
+    violated-below : (m n : ℕ) (e : Expr) → n + count e ≤ m → AllBelow m (violated counts n e)
+    violated-below m n (cite t) h = one-below m n (isFalse (counts n t)) (omega arith)
     violated-below m n (Then es) h = violated-belows m n es h
     violated-below m n (join o es) h = violated-belows m n es h
 
-    violated-belows : (m n : ℕ) (es : Exprs) → n + length (citationsOf es) ≤ m → AllBelow m (violatedOf value n es)
+    violated-belows : (m n : ℕ) (es : Exprs) → n + length (citationsOf es) ≤ m → AllBelow m (violatedOf counts n es)
     violated-belows m n none h = tt
     violated-belows m n (more e es) h =
         let l = length-append (citations e) (citationsOf es) in
-        all-append m (violated value n e) (violatedOf value (n + count e) es) (violated-below m n e (omega (arith, l))) (violated-belows m (n + count e) es (omega (arith, l)))
+        all-append m (violated counts n e) (violatedOf counts (n + count e) es) (violated-below m n e (omega (arith, l))) (violated-belows m (n + count e) es (omega (arith, l)))
 
   module _ (texts : List (List ℕ)) where
     named-none : length (named texts []) ≤ 0
@@ -77,12 +77,12 @@ module _ (value : List ℕ) where
     mutual
       unfolding violated citations concat
 
-      named-size : (n : ℕ) (e : Expr) (rest : List (List ℕ)) → drop n texts ≡ citations e ++ rest → length (named texts (violated value n e)) ≤ length (concat (citations e)) + count e
-      named-size n (cite t) rest h = omega (arith, one-size texts n t (isFalse (citedTruth value t)) (text-here texts n t rest h), length-append t [])
+      named-size : (n : ℕ) (e : Expr) (rest : List (List ℕ)) → drop n texts ≡ citations e ++ rest → length (named texts (violated counts n e)) ≤ length (concat (citations e)) + count e
+      named-size n (cite t) rest h = omega (arith, one-size texts n t (isFalse (counts n t)) (text-here texts n t rest h), length-append t [])
       named-size n (Then es) rest h = named-sizes n es rest h
       named-size n (join o es) rest h = named-sizes n es rest h
 
-      named-sizes : (n : ℕ) (es : Exprs) (rest : List (List ℕ)) → drop n texts ≡ citationsOf es ++ rest → length (named texts (violatedOf value n es)) ≤ length (concat (citationsOf es)) + length (citationsOf es)
+      named-sizes : (n : ℕ) (es : Exprs) (rest : List (List ℕ)) → drop n texts ≡ citationsOf es ++ rest → length (named texts (violatedOf counts n es)) ≤ length (concat (citationsOf es)) + length (citationsOf es)
       named-sizes n none rest h = named-none
       named-sizes n (more e es) rest h =
           let first = h ∙ append-assoc (citations e) (citationsOf es) rest in
@@ -94,8 +94,8 @@ module _ (value : List ℕ) where
             length-append (citations e) (citationsOf es),
             ap length (concat-append (citations e) (citationsOf es)),
             length-append (concat (citations e)) (concat (citationsOf es)),
-            ap length (named-append texts (violated value n e) (violatedOf value (n + count e) es)),
-            length-append (named texts (violated value n e)) (named texts (violatedOf value (n + count e) es)),
+            ap length (named-append texts (violated counts n e) (violatedOf counts (n + count e) es)),
+            length-append (named texts (violated counts n e)) (named texts (violatedOf counts (n + count e) es)),
           )
 
   -- what holds of the numbers of violated citations
@@ -104,9 +104,9 @@ module _ (value : List ℕ) where
     pub below : AllBelow (count e) ns
     pub small : length (named (citations e) ns) ≤ longestNamed
 
-  some-listed : (e : Expr) → Fits e → Listed e (violated value 0 e)
+  some-listed : (e : Expr) → Fits e → Listed e (violated counts 0 e)
   some-listed e f = record {
-    few = omega (arith, violated-few value 0 e, f .few);
+    few = omega (arith, violated-few counts 0 e, f .few);
     below = violated-below (count e) 0 e (omega arith);
     small = omega (arith, named-size (citations e) 0 e [] (sym (append-nil (citations e))), f .few, f .small);
   }
@@ -114,15 +114,15 @@ module _ (value : List ℕ) where
   none-listed : (e : Expr) → Listed e []
   none-listed e = record { few = omega arith; below = tt; small = omega (arith, named-none (citations e)) }
 
-  violations-by : (e : Expr) (t : Bool) → isFalse (truth value e) ≡ t → violations value e ≡ cond t (violated value 0 e) []
-  unfolding violations
+  violations-by : (e : Expr) (t : Bool) → isFalse (truthWith counts 0 e) ≡ t → violationsWith counts e ≡ cond t (violated counts 0 e) []
+  unfolding violationsWith
   violations-by e t h = rw h
 
   -- it holds of the violations
-  pub listed : (e : Expr) → Fits e → Listed e (violations value e)
-  listed e f = by (isFalse (truth value e)) refl
+  pub listed : (e : Expr) → Fits e → Listed e (violationsWith counts e)
+  listed e f = by (isFalse (truthWith counts 0 e)) refl
     where
-      by : (t : Bool) → isFalse (truth value e) ≡ t → Listed e (violations value e)
+      by : (t : Bool) → isFalse (truthWith counts 0 e) ≡ t → Listed e (violationsWith counts e)
       by true h = subst (Listed e) (sym (violations-by e true h)) (some-listed e f)
       by false h = subst (Listed e) (sym (violations-by e false h)) (none-listed e)
 

@@ -2,7 +2,7 @@
 use mathlib.Core.Path.{_≡_, refl, sym, ap, _∙_, subst}
 use mathlib.Core.List.{List, _++_}
 use mathlib.Core.Bool.{true}
-use Prim.Native.Nat.{ℕ, _+_, _*_, _≤_, _<_}
+use Prim.Native.Nat.{ℕ, _*_, _≤_, _<_}
 use native.Mathlib.Omega.{arith}
 use lib.ListN.{length, take, drop, length-append}
 use lib.Seq.{take-append-seam}
@@ -14,7 +14,7 @@ use Rattle.utf8.specs.Limits.{valueLimit, admitted}
 use Rattle.utf8.proofs.Limits.{admitted-ok, fits}
 use Rattle.citation.specs.declared.Truth.{Truth}
 use Rattle.status.specs.declared.StatusKind.{StatusKind}
-use Rattle.grammar.specs.Expr.{Expr, citations, count, concat}
+use Rattle.grammar.specs.Expr.{Expr, citations, concat}
 use Rattle.grammar.specs.Print.{printed}
 use Rattle.grammar.specs.Reading.{citationLimit, Fits, printLimit}
 use Rattle.grammar.specs.Status.{Stated, alone, stated, statusReading}
@@ -22,7 +22,7 @@ use Rattle.grammar.specs.Bytes.{cites, textsIn, isTree, treeAt, bytesOf, treeLi
 use Rattle.grammar.specs.Theorems.{afterStatus, read-fits, print-short, few-bytes, is-tree, tree-of-bytes}
 use Rattle.grammar.specs.Outcome.{Written, Outcome, answerOf, writtenOf, withLength, displayAnswer, wordAlone, withTree, statedBytes, statusAnswer, answer-fits, written-fits, answer-short, written-short}
 use Rattle.semantics.specs.Presence.{answersFit}
-use Rattle.semantics.specs.Truth.{truth}
+use Rattle.semantics.specs.Truth.{countsOn, truth}
 use Rattle.semantics.specs.Violations.{violations, numberBytes}
 use Rattle.semantics.specs.Packages.{paketSize, pakete}
 use Rattle.semantics.specs.Sizes.{numbers-length, rows-length}
@@ -38,7 +38,6 @@ use Rattle.packages.specs.Said.{paketeSaid}
 use Rattle.packages.specs.declared.PaketeAnswer.{PaketeAnswer}
 use Rattle.verdicts.specs.Said.{violationsSaid}
 use Rattle.verdicts.specs.declared.ViolationsAnswer.{ViolationsAnswer}
-use Rattle.verdicts.specs.declared.BothAnswer.{BothAnswer}
 use Rattle.verdicts.specs.declared.BothAnswer.the-variants as both
 use Rattle.reader.specs.Said.{statusSaid}
 use Rattle.reader.specs.declared.StatusAnswer.{StatusAnswer}
@@ -107,7 +106,7 @@ module _ (b : List ℕ) (tree : isTree b ≡ true) where
           → (violationsSaid o ≡ ok (length (violations value e))) × ((n : ℕ) → n ≡ length (violations value e) → (n ≤ citationLimit) × (numbersFrom new n 0 ≡ violations value e))
       violations-listed o room f g =
           let ns = violations value e in
-          let l = listed value e (root b tree .fits) in
+          let l = listed (countsOn value) e (root b tree .fits) in
           let s = settled (violationsAnswer b value) (numbered ns) old new (violationsSaid o) violations-is (omega (arith, numbers-length ns, l .few)) f g in
           (s .0, λ n h. (omega (arith, h, l .few), ap (λ (x : ℕ). numbersFrom new x 0) h ∙ numbers-got new (drop (length (numberBytes ns)) old) ns 0 (s .1)))
 
@@ -115,7 +114,7 @@ module _ (b : List ℕ) (tree : isTree b ≡ true) where
   pub violations-small : (value ns : List ℕ) → ns ≡ violations value e → AllBelow (cites b) ns × (length (named (textsIn b) ns) ≤ longestNamed) × (named (textsIn b) ns ≡ named (citations e) (violations value e))
   violations-small value ns h =
       let r = root b tree in
-      let l = listed value e (r .fits) in
+      let l = listed (countsOn value) e (r .fits) in
       let texts : named (textsIn b) ns ≡ named (citations e) (violations value e) = ap (named (textsIn b)) h ∙ ap (λ x. named x (violations value e)) (sym (r .cited)) in
       (subst (AllBelow (cites b)) (sym h) (subst (λ (m : ℕ). AllBelow m (violations value e)) (r .counts) (l .below)), omega (arith, ap length texts, l .small), texts)
 

@@ -8,16 +8,17 @@ use Rattle.laws.specs.Tests.{and-both}
 use Rattle.citation.specs.Kinds.{kindOf}
 use Rattle.citation.specs.declared.ConditionKind.{ConditionKind}
 use Rattle.citation.specs.declared.ConditionKind.the-variants.{Voraussetzung, Hinweis, Format, Wiederholbarkeit, Zeitpunkt, Paket, Other}
+use Rattle.semantics.specs.Rules.{any, every}
 use Rattle.semantics.specs.Presence.{isHinweis, isGate, onlyHinweise, gates}
 use Rattle.presence.specs.Marks.{markNumber, markOfKind, markOf, larger}
 
 gates-append : (a b : List (List ℕ)) → gates (a ++ b) ≡ gates a || gates b
-unfolding gates
+unfolding any
 gates-append [] b = refl
 gates-append (t ∷ a) b = rw (gates-append a b) (sym (or-assoc (isGate (kindOf t)) (gates a) (gates b)))
 
 only-append : (a b : List (List ℕ)) → onlyHinweise (a ++ b) ≡ onlyHinweise a && onlyHinweise b
-unfolding onlyHinweise
+unfolding every
 only-append [] b = refl
 only-append (t ∷ a) b = rw (only-append a b) (sym (and-assoc (isHinweis (kindOf t)) (onlyHinweise a) (onlyHinweise b)))
 
@@ -40,12 +41,12 @@ mark-append a b = rw (gates-append a b, only-append a b) (larger-both (gates a) 
 
 -- the mark of nothing
 pub mark-none : markOf [] ≡ 0
-unfolding markOf gates onlyHinweise
+unfolding markOf any every
 mark-none = refl
 
 -- the mark of one citation
 pub mark-one : (t : List ℕ) → markOf (t ∷ []) ≡ markOfKind (kindOf t)
-unfolding markOf gates onlyHinweise
+unfolding markOf any every
 mark-one t = rw (or-false (isGate (kindOf t)), and-true (isHinweis (kindOf t)))
 
 hint-free : (k : ConditionKind) → isHinweis k ≡ true → isGate k ≡ false
@@ -59,7 +60,7 @@ hint-free Other h = refl
 
 -- Hinweise alone do not gate
 pub only-free : (ts : List (List ℕ)) → onlyHinweise ts ≡ true → gates ts ≡ false
-unfolding onlyHinweise gates
+unfolding every any
 only-free [] h = refl
 only-free (t ∷ ts) h =
     let r = and-both (isHinweis (kindOf t)) (onlyHinweise ts) h in

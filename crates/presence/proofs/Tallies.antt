@@ -11,7 +11,7 @@ use Rattle.grammar.specs.Expr.{And, Or, Xor, Expr, Exprs, cite, Then, join, non
 use Rattle.grammar.specs.Rows.{opKind, children}
 use Rattle.tree.specs.Walk.{nodeKind}
 use Rattle.semantics.specs.Rules.{isFalse, isUnknown, isTrue, any, andRule, orRule, twoTrue, xorRule}
-use Rattle.semantics.specs.Presence.{dropped, mixes, before, presence, values}
+use Rattle.semantics.specs.Presence.{presenceWith, valuesWith, dropped, mixes, before, presence, values}
 use Rattle.semantics.specs.Sentences.{or-mixes, xor-mixes, values-dropped, values-kept}
 use Rattle.presence.specs.Marks.{choosing}
 use Rattle.presence.specs.declared.Tally.{Tally}
@@ -105,7 +105,7 @@ module _ (oracle : ℕ → Result Truth) where
   -- a node that does not mix is finished from its operands' values
   pub node-begins : (n : ℕ) (e : Expr) → (nodeKind e ≡ 0 → ⊥) → (choosing (nodeKind e) && mixes (children e)) ≡ false
       → presence oracle n e ≡ finished (nodeKind e) noTally (values oracle (choosing (nodeKind e)) n (children e))
-  unfolding presence nodeKind opKind children
+  unfolding presenceWith nodeKind opKind children
   node-begins n (cite t) k h = absurd (k refl)
   node-begins n (Then es) k h = finished-by andRule 1 then-ruled (values oracle false n es)
   node-begins n (join And es) k h = finished-by andRule 2 join-ruled (values oracle false n es)
@@ -123,7 +123,7 @@ module _ (oracle : ℕ → Result Truth) where
 
   -- no operand is left
   pub node-ends : (k : ℕ) (t : Tally) (c : Bool) (n : ℕ) → finished k t (values oracle c n none) ≡ ok (ruled k t)
-  unfolding finished values map-ok tallied
+  unfolding finished valuesWith map-ok tallied
   node-ends k t c n = refl
 
   -- an operand is dropped

@@ -1,7 +1,7 @@
 -- The loops over a node's operands: marking, mixing, evaluating. Assumes nothing.
 use mathlib.Core.Path.{_≡_, refl, sym, ap, _∙_, subst}
 use mathlib.Core.List.{List, [], _++_, append-assoc, append-nil}
-use mathlib.Core.Bool.{Bool, true, false, not, _&&_, _||_, or-false, or-true, or-assoc, false≢true}
+use mathlib.Core.Bool.{Bool, true, false, _&&_, _||_, or-false, or-true, or-assoc, false≢true}
 use Prim.Native.Nat.{ℕ, zero, suc, _+_, _-_, _≤_, _<_}
 use native.Mathlib.Omega.{arith}
 use lib.Dec.{eqb}
@@ -12,13 +12,13 @@ use Rattle.refusal.specs.Result.{ok, refused, refuse}
 use Rattle.refusal.specs.declared.Refusal.the-variants.{ChoiceOverNeutral}
 use Rattle.citation.specs.declared.Truth.{Truth}
 use Rattle.citation.specs.Kinds.{kindOf}
-use Rattle.grammar.specs.Expr.{Expr, Exprs, cite, Then, join, none, more, _◂_, citations, citationsOf, count}
+use Rattle.grammar.specs.Expr.{Expr, Exprs, cite, Then, join, none, _◂_, citations, citationsOf, count}
 use Rattle.grammar.specs.Rows.{span, firsts, children}
 use Rattle.grammar.specs.Bytes.{nodes, cites, isTree, forestAt, treeAt}
 use Rattle.tree.specs.Walk.{nodeKind, numberAt, firstAt, textAt}
 use Rattle.tree.proofs.Spots.{spot}
 use Rattle.tree.proofs.Walks.{Walk, leaf, children-at, first-below, walk-begins, walk-next}
-use Rattle.semantics.specs.Presence.{dropped, gates, someGate, someFree, mixes, presence, values, oracleOf}
+use Rattle.semantics.specs.Presence.{someGateWith, someFreeWith, presenceWith, dropped, someGate, someFree, mixes, presence, values, oracleOf}
 use Rattle.presence.specs.Marks.{markOfKind, markOf, larger, choosing, choiceAmong, Marked, Ready}
 use Rattle.presence.specs.declared.Tally.{Tally}
 use Rattle.presence.specs.Tallies.{noTally, added, ruled, finished}
@@ -165,11 +165,11 @@ pub record Mixing (b : List ℕ) (row left child : ℕ) (gate free : Bool) : Typ
   pub after : row < child
 
 gate-more : (e : Expr) (es : Exprs) (m : ℕ) → m ≡ markOf (citations e) → someGate (e ◂ es) ≡ eqb m 2 || someGate es
-unfolding someGate
+unfolding someGateWith
 gate-more e es m h = rw (h, mark-gate (citations e))
 
 free-more : (e : Expr) (es : Exprs) (m : ℕ) → m ≡ markOf (citations e) → someFree (e ◂ es) ≡ eqb m 1 || someFree es
-unfolding someFree
+unfolding someFreeWith
 free-more e es m h = rw (h, mark-free (citations e))
 
 module _ (b : List ℕ) (tree : isTree b ≡ true) where
@@ -199,7 +199,7 @@ module _ (b : List ℕ) (tree : isTree b ≡ true) where
       }
 
 mixing-ends : (b : List ℕ) (row left child : ℕ) (gate free : Bool) → Mixing b row left child gate free → left ≤ 0 → gate && free ≡ mixes (children (treeAt b row))
-unfolding someGate someFree
+unfolding someGateWith someFreeWith
 mixing-ends b row left child gate free s h =
     let none-left = firsts-end left (forestAt b child) h in
     let g : someGate (children (treeAt b row)) ≡ gate = s .gating ∙ ap (λ x. gate || someGate x) none-left ∙ or-false gate in
@@ -302,7 +302,7 @@ evaluating-ends b answers kind row left child t s h =
 -- a citation's row has the oracle's answer
 pub leaf-answer : (b answers : List ℕ) → isTree b ≡ true → (row : ℕ) → row < nodes b → nodeKind (treeAt b row) ≡ 0 → (n : ℕ) → n ≡ numberAt b row
     → oracleOf answers n ≡ presence (oracleOf answers) (firstAt b row) (treeAt b row)
-unfolding presence
+unfolding presenceWith
 leaf-answer b answers tree row l k n e = let f = leaf b tree row l k in rw (f .is, ← f .first, e)
 
 -- a choice that mixes, before any operand is evaluated

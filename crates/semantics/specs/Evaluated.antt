@@ -12,7 +12,7 @@ use Rattle.text.specs.Bytes.{all}
 use Rattle.citation.specs.declared.Truth.{Truth}
 use Rattle.grammar.specs.Expr.{And, Or, Xor, Expr, Exprs, cite, Then, join, none, more, _◂_, count}
 use Rattle.grammar.specs.Bytes.{treeOf}
-use Rattle.semantics.specs.Presence.{dropped, valued, presence, values, failed, answered, oracleOf, answersFit}
+use Rattle.semantics.specs.Presence.{presenceWith, dropped, valued, presence, values, failed, answered, oracleOf, answersFit}
 use Rattle.semantics.specs.Answers.{evalAnswer}
 
 unfoldable mutual
@@ -51,7 +51,7 @@ module _ (a b : ℕ → Result Truth) where
   value-agrees false v v′ vs vs′ f g = rw (f refl, g)
 
   mutual
-    unfolding presence evaluates
+    unfolding presenceWith evaluates
 
     -- presence looks at the evaluated citations only
     pub presence-agrees : (n : ℕ) (e : Expr) → ((k : ℕ) → evaluates k n e ≡ true → a k ≡ b k) → presence a n e ≡ presence b n e

@@ -23,10 +23,10 @@ use Rattle.grammar.specs.Citable.{holds, citable}
 use Rattle.grammar.specs.Rows.{opKind, many, node, rows, firsts, rests, made, first, place, build}
 use Rattle.grammar.specs.Bytes.{twoBytes, rowBytes, citeBytes, headBytes, packed, bytesOf, rowsFrom, citedFrom, headOk, sizeOf, tiles, rowOk, rowsOk, citesOk, isTree, forestAt, treeAt, treeOf}
 use Rattle.grammar.specs.Quoted.{bytes}
-use Rattle.semantics.specs.Rules.{any, andRule, orRule, twoTrue, xorRule}
-use Rattle.semantics.specs.Presence.{onlyHinweise, gates, someGate, someFree, before, presence, answered, answersFit}
-use Rattle.semantics.specs.Truth.{citedTruth, truth}
-use Rattle.semantics.specs.Violations.{violated, violations, numberBytes}
+use Rattle.semantics.specs.Rules.{any, every, andRule, orRule, twoTrue, xorRule}
+use Rattle.semantics.specs.Presence.{someGateWith, someFreeWith, before, presenceWith, answered, answersFit}
+use Rattle.semantics.specs.Truth.{citedTruth, truthWith, truth}
+use Rattle.semantics.specs.Violations.{violated, violationsWith, violations, numberBytes}
 use Rattle.semantics.specs.Packages.{bytesUpTo, paketBytes, rowsOf, pakete}
 use Rattle.grammar.specs.Outcome.{answerOf, writtenOf}
 use Rattle.semantics.specs.Answers.{evalAnswer, violationsAnswer, evalAndTruthAnswer}
@@ -60,6 +60,7 @@ cases =
     ∷ (or2 "1" "931", 2 ∷ 3 ∷ [], refuse ChoiceOverNeutral)
     ∷ (or2 "1" "931", 4 ∷ 4 ∷ [], refuse ChoiceOverNeutral)
     ∷ (or2 "1" "931", 4 ∷ 5 ∷ [], refuse WrongAnswers)
+    ∷ (or2 "1" "900", 2 ∷ 3 ∷ [], refuse ChoiceOverNeutral)
     ∷ (or2 "1" "2P0..1", 0 ∷ 1 ∷ [], ok Unknown)
     ∷ (join Or (and2 "500" "931" ◂ c "1" ◂ none), 3 ∷ 3 ∷ 2 ∷ [], refuse ChoiceOverNeutral)
     ∷ (join Or (and2 "500" "501" ◂ c "1" ◂ none), 4 ∷ 4 ∷ 0 ∷ [], ok False)
@@ -81,7 +82,7 @@ wanted [] = []
 wanted (x ∷ xs) = x .2 ∷ wanted xs
 
 cases-hold : said cases ≡ wanted cases
-unfolding evalAnswer then map-ok treeOf isTree headOk tiles sizeOf rowsFrom citedFrom rowsOk rowOk citesOk citable isUtf8 decode leadOf blank holds isWhite treeAt forestAt first build place made firsts rests encodeChar bytesOf packed headBytes rowBytes citeBytes twoBytes rows node opKind many citations concat answersFit presence answered before andRule orRule xorRule twoTrue any someGate someFree onlyHinweise gates kindOf kindOfNumber numberUpTo
+unfolding evalAnswer then map-ok treeOf isTree headOk tiles sizeOf rowsFrom citedFrom rowsOk rowOk citesOk citable isUtf8 decode leadOf blank holds isWhite treeAt forestAt first build place made firsts rests encodeChar bytesOf packed headBytes rowBytes citeBytes twoBytes rows node opKind many citations concat answersFit presenceWith answered before andRule orRule xorRule twoTrue any someGateWith someFreeWith every kindOf kindOfNumber numberUpTo
 cases-hold = refl
 
 -- no bytes are no tree, whatever the answers
@@ -101,6 +102,10 @@ judgements =
     ∷ (c "951", bytes "0", Unknown, [])
     ∷ (c "0902", bytes "-1", Unknown, [])
     ∷ (c " 902", bytes "-1", True, [])
+    ∷ (c "900", bytes "0", True, [])
+    ∷ (c "+0900", bytes "0", True, [])
+    ∷ (or2 "900" "902", bytes "-1", True, [])
+    ∷ (and2 "900" "951", bytes "0", Unknown, [])
     ∷ (and2 "902" "951", bytes "-1", False, 0 ∷ [])
     ∷ (or2 "902" "951", bytes "-1", Unknown, [])
     ∷ (xor3 "902" "909" "1", bytes "1", True, [])
@@ -116,7 +121,7 @@ judgementsWanted [] = []
 judgementsWanted (x ∷ xs) = (x .2, x .3) ∷ judgementsWanted xs
 
 judgements-hold : judgementsSaid judgements ≡ judgementsWanted judgements
-unfolding truth citedTruth violations violated andRule orRule any citations kindOf kindOfNumber numberUpTo verdict ruleOf judged against integerOf fractionOf encodeChar
+unfolding truthWith citedTruth violationsWith violated andRule orRule any citations kindOf kindOfNumber numberUpTo verdict ruleOf judged against integerOf fractionOf encodeChar
 judgements-hold = refl
 
 -- the violations into a buffer: their count, two bytes each, and the old rest; 14 and the old bytes where it is too short
@@ -124,7 +129,7 @@ sample-written : (answerOf (violationsAnswer (bytesOf sample) (bytes "0")) 5 ≡
     × (writtenOf (violationsAnswer (bytesOf sample) (bytes "0")) (replicate 5 9) ≡ 1 ∷ 0 ∷ 3 ∷ 0 ∷ 9 ∷ [])
     × (answerOf (violationsAnswer (bytesOf sample) (bytes "0")) 3 ≡ refuse NoRoom)
     × (writtenOf (violationsAnswer (bytesOf sample) (bytes "0")) (replicate 3 9) ≡ replicate 3 9)
-unfolding answerOf writtenOf violationsAnswer then admitted treeOf isTree headOk tiles sizeOf rowsFrom citedFrom rowsOk rowOk citesOk citable isUtf8 decode leadOf blank holds isWhite treeAt forestAt first build place made firsts rests encodeChar bytesOf packed headBytes rowBytes citeBytes twoBytes rows node opKind many citations concat numberBytes truth citedTruth violations violated andRule orRule any kindOf kindOfNumber numberUpTo verdict ruleOf judged against integerOf fractionOf
+unfolding answerOf writtenOf violationsAnswer then admitted treeOf isTree headOk tiles sizeOf rowsFrom citedFrom rowsOk rowOk citesOk citable isUtf8 decode leadOf blank holds isWhite treeAt forestAt first build place made firsts rests encodeChar bytesOf packed headBytes rowBytes citeBytes twoBytes rows node opKind many citations concat numberBytes truthWith citedTruth violationsWith violated andRule orRule any kindOf kindOfNumber numberUpTo verdict ruleOf judged against integerOf fractionOf
 sample-written = (refl, refl, refl, refl)
 
 -- an expression, answer bytes, a value, and what `eval_and_truth` says: 16 before the value's 10 and 11, and these before 7 and 8
@@ -147,7 +152,7 @@ bothWanted [] = []
 bothWanted (x ∷ xs) = x .3 ∷ bothWanted xs
 
 both-hold : bothSaid both ≡ bothWanted both
-unfolding evalAndTruthAnswer then map-ok admitted treeOf isTree headOk tiles sizeOf rowsFrom citedFrom rowsOk rowOk citesOk citable isUtf8 decode leadOf blank holds isWhite treeAt forestAt first build place made firsts rests encodeChar bytesOf packed headBytes rowBytes citeBytes twoBytes rows node opKind many citations concat answersFit presence answered before andRule orRule xorRule twoTrue any someGate someFree onlyHinweise gates kindOf kindOfNumber numberUpTo truth citedTruth verdict ruleOf judged against integerOf fractionOf
+unfolding evalAndTruthAnswer then map-ok admitted treeOf isTree headOk tiles sizeOf rowsFrom citedFrom rowsOk rowOk citesOk citable isUtf8 decode leadOf blank holds isWhite treeAt forestAt first build place made firsts rests encodeChar bytesOf packed headBytes rowBytes citeBytes twoBytes rows node opKind many citations concat answersFit presenceWith answered before andRule orRule xorRule twoTrue any someGateWith someFreeWith every kindOf kindOfNumber numberUpTo truthWith citedTruth verdict ruleOf judged against integerOf fractionOf
 both-hold = refl
 
 -- the package rows of `[2P5..2] [1] [XP1..2] [7P] [3P258..n]`: the unreadable one has none

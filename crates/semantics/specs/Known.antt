@@ -1,5 +1,5 @@
 -- Every refusal of presence and of format truth is one of the table. Assumes nothing.
-use mathlib.Core.Path.{_≡_, refl}
+use mathlib.Core.Path.{refl}
 use mathlib.Core.List.{List}
 use mathlib.Core.Bool.{Bool, true, false, _&&_, not}
 use Prim.Native.Nat.{ℕ, _+_}
@@ -17,7 +17,7 @@ use Rattle.grammar.specs.Expr.{And, Or, Xor, Expr, Exprs, cite, Then, join, non
 use Rattle.grammar.specs.Bytes.{treeOf}
 use Rattle.grammar.specs.Known.{admitted-among, tree-of-known}
 use Rattle.semantics.specs.Rules.{andRule, orRule, xorRule}
-use Rattle.semantics.specs.Presence.{failed, mixes, before, valued, dropped, presence, values, answered, oracleOf, answersFit}
+use Rattle.semantics.specs.Presence.{presenceWith, failed, mixes, before, valued, dropped, presence, values, answered, oracleOf, answersFit}
 use Rattle.semantics.specs.Truth.{truth}
 use Rattle.semantics.specs.Answers.{presenceBy, evalAnswer, truthAnswer}
 
@@ -38,7 +38,7 @@ valued-known false (refused n) vs h k = h
 
 module _ (answers : List ℕ) where
   mutual
-    unfolding presence
+    unfolding presenceWith
 
     pub presence-known : (n : ℕ) (e : Expr) → Known (presence (oracleOf answers) n e)
     presence-known n (cite t) = answered-known (getD answers n failed)

@@ -1,6 +1,8 @@
 pub mod Rules
 pub mod Presence
 pub mod Truth
+pub mod Pairs
+pub mod Kept
 pub mod Violations
 pub mod Packages
 pub mod Answers

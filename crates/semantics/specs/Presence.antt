@@ -14,7 +14,7 @@ use Rattle.citation.specs.declared.Truth.{Truth}
 use Rattle.citation.specs.declared.Truth.the-variants.{False, Unknown, True, Neutral}
 use Rattle.citation.specs.Truths.{truthNumber}
 use Rattle.grammar.specs.Expr.{And, Or, Xor, Expr, Exprs, cite, Then, join, none, more, citations, count}
-use Rattle.semantics.specs.Rules.{andRule, orRule, xorRule}
+use Rattle.semantics.specs.Rules.{any, every, andRule, orRule, xorRule}
 
 -- the kind is Hinweis
 abbrev pub isHinweis : ConditionKind → Bool
@@ -36,38 +36,6 @@ isGate Zeitpunkt = false
 isGate Paket = true
 isGate Other = false
 
--- these texts are Hinweise only
-unfoldable pub onlyHinweise : List (List ℕ) → Bool
-onlyHinweise [] = true
-onlyHinweise (t ∷ ts) = isHinweis (kindOf t) && onlyHinweise ts
-
--- one of these texts gates
-unfoldable pub gates : List (List ℕ) → Bool
-gates [] = false
-gates (t ∷ ts) = isGate (kindOf t) || gates ts
-
--- a choice drops the operand: it cites only Hinweise
-abbrev pub dropped : Expr → Bool
-dropped e = onlyHinweise (citations e)
-
--- a kept operand cites a Voraussetzung or a Paket
-unfoldable pub someGate : Exprs → Bool
-someGate none = false
-someGate (more e es) = (not (dropped e) && gates (citations e)) || someGate es
-
--- a kept operand cites neither
-unfoldable pub someFree : Exprs → Bool
-someFree none = false
-someFree (more e es) = (not (dropped e) && not (gates (citations e))) || someFree es
-
--- a choice mixes: one kept operand gates, and another does not
-abbrev pub mixes : Exprs → Bool
-mixes es = someGate es && someFree es
-
--- a choice by a rule over its kept operands' values; one that mixes is turned back with 7, before any value is looked at
-abbrev pub choice : (List Truth → Truth) → Exprs → Result (List Truth) → Result Truth
-choice rule es vs = unless (not (mixes es)) ChoiceOverNeutral (map-ok rule vs)
-
 -- a value before others, or the first refusal met
 unfoldable pub before : Result Truth → Result (List Truth) → Result (List Truth)
 before (ok v) (ok vs) = ok (v ∷ vs)
@@ -79,20 +47,86 @@ abbrev pub valued : Bool → Result Truth → Result (List Truth) → Result (Li
 valued true v vs = vs
 valued false v vs = before v vs
 
-module _ (oracle : ℕ → Result Truth) where
-  unfoldable mutual
-    -- the presence of an expression whose first citation has the number n; the oracle answers each citation's number
-    pub presence : ℕ → Expr → Result Truth
-    presence n (cite t) = oracle n
-    presence n (Then es) = map-ok andRule (values false n es)
-    presence n (join And es) = map-ok andRule (values false n es)
-    presence n (join Or es) = choice orRule es (values true n es)
-    presence n (join Xor es) = choice xorRule es (values true n es)
+-- a choice by a rule over its kept operands' values; one that mixes is turned back with 7, before any value is looked at
+abbrev pub choice : (mixed : Bool) → (List Truth → Truth) → Result (List Truth) → Result Truth
+choice mixed rule vs = unless (not mixed) ChoiceOverNeutral (map-ok rule vs)
 
-    -- the operands' values, from left to right; a choice leaves out the dropped
-    pub values : (choosing : Bool) → ℕ → Exprs → Result (List Truth)
-    values choosing n none = ok []
-    values choosing n (more e es) = valued (choosing && dropped e) (presence n e) (values choosing (n + count e) es)
+-- What presence looks at of a text is handed in: whether it is a Hinweis, and whether it gates.
+module _ (hint gate : List ℕ → Bool) where
+  -- a choice drops the operand: it cites only Hinweise
+  abbrev pub droppedWith : Expr → Bool
+  droppedWith e = every hint (citations e)
+
+  -- a kept operand cites a text that gates
+  unfoldable pub someGateWith : Exprs → Bool
+  someGateWith none = false
+  someGateWith (more e es) = (not (droppedWith e) && any gate (citations e)) || someGateWith es
+
+  -- a kept operand cites none
+  unfoldable pub someFreeWith : Exprs → Bool
+  someFreeWith none = false
+  someFreeWith (more e es) = (not (droppedWith e) && not (any gate (citations e))) || someFreeWith es
+
+  -- a choice mixes: one kept operand gates, and another does not
+  abbrev pub mixesWith : Exprs → Bool
+  mixesWith es = someGateWith es && someFreeWith es
+
+  module _ (oracle : ℕ → Result Truth) where
+    unfoldable mutual
+      -- the presence of an expression whose first citation has the number n; the oracle answers each citation's number
+      pub presenceWith : ℕ → Expr → Result Truth
+      presenceWith n (cite t) = oracle n
+      presenceWith n (Then es) = map-ok andRule (valuesWith false n es)
+      presenceWith n (join And es) = map-ok andRule (valuesWith false n es)
+      presenceWith n (join Or es) = choice (mixesWith es) orRule (valuesWith true n es)
+      presenceWith n (join Xor es) = choice (mixesWith es) xorRule (valuesWith true n es)
+
+      -- the operands' values, from left to right; a choice leaves out the dropped
+      pub valuesWith : (choosing : Bool) → ℕ → Exprs → Result (List Truth)
+      valuesWith choosing n none = ok []
+      valuesWith choosing n (more e es) = valued (choosing && droppedWith e) (presenceWith n e) (valuesWith choosing (n + count e) es)
+
+-- By the kinds of texts, as the public functions judge.
+
+-- the text is a Hinweis
+abbrev pub isHint : List ℕ → Bool
+isHint t = isHinweis (kindOf t)
+
+-- the text gates
+abbrev pub isGating : List ℕ → Bool
+isGating t = isGate (kindOf t)
+
+-- these texts are Hinweise only
+abbrev pub onlyHinweise : List (List ℕ) → Bool
+onlyHinweise = every isHint
+
+-- one of these texts gates
+abbrev pub gates : List (List ℕ) → Bool
+gates = any isGating
+
+-- a choice drops the operand
+abbrev pub dropped : Expr → Bool
+dropped = droppedWith isHint isGating
+
+-- a kept operand cites a Voraussetzung or a Paket
+abbrev pub someGate : Exprs → Bool
+someGate = someGateWith isHint isGating
+
+-- a kept operand cites neither
+abbrev pub someFree : Exprs → Bool
+someFree = someFreeWith isHint isGating
+
+-- a choice mixes
+abbrev pub mixes : Exprs → Bool
+mixes = mixesWith isHint isGating
+
+-- the presence of an expression, by an oracle and the number of its first citation
+abbrev pub presence : (oracle : ℕ → Result Truth) → ℕ → Expr → Result Truth
+presence = presenceWith isHint isGating
+
+-- the operands' values
+abbrev pub values : (oracle : ℕ → Result Truth) (choosing : Bool) → ℕ → Exprs → Result (List Truth)
+values = valuesWith isHint isGating
 
 -- the answer byte of a citation whose evaluation failed
 abbrev pub failed : ℕ

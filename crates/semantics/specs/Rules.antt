@@ -1,6 +1,6 @@
 -- How the truths of operands combine (docs/SEMANTICS.md, 'Presence'). Assumes nothing.
 use mathlib.Core.List.{List, [], _∷_}
-use mathlib.Core.Bool.{Bool, true, false, cond, _||_}
+use mathlib.Core.Bool.{Bool, true, false, cond, _&&_, _||_}
 use Rattle.citation.specs.declared.Truth.{Truth}
 use Rattle.citation.specs.declared.Truth.the-variants.{False, Unknown, True, Neutral}
 
@@ -37,6 +37,11 @@ module _ {A : Type 0} where
   unfoldable pub any : (A → Bool) → List A → Bool
   any p [] = false
   any p (x ∷ xs) = p x || any p xs
+
+  -- the test holds of every entry
+  unfoldable pub every : (A → Bool) → List A → Bool
+  every p [] = true
+  every p (x ∷ xs) = p x && every p xs
 
 -- Then and And: False decides before Unknown, Unknown before True; Neutral where nothing else stands
 unfoldable pub andRule : List Truth → Truth

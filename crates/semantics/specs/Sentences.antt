@@ -1,5 +1,5 @@
 -- The rules of presence in words (docs/SEMANTICS.md, 'Presence'), as laws. Assumes nothing.
-use mathlib.Core.Path.{_≡_, refl, sym, ap}
+use mathlib.Core.Path.{_≡_, refl, ap}
 use mathlib.Core.List.{List, [], _∷_}
 use mathlib.Core.Bool.{Bool, true, false, cond, _&&_, _||_, false≢true}
 use Prim.Native.Nat.{ℕ, _+_}
@@ -12,7 +12,7 @@ use Rattle.citation.specs.declared.Truth.the-variants.{False, Unknown, True, Ne
 use Rattle.citation.specs.Truths.{truthNumber}
 use Rattle.grammar.specs.Expr.{Or, Xor, Expr, Exprs, join, _◂_, count}
 use Rattle.semantics.specs.Rules.{isFalse, isUnknown, isTrue, isNeutral, any, andRule, orRule, twoTrue, xorRule}
-use Rattle.semantics.specs.Presence.{dropped, mixes, before, presence, values, answered}
+use Rattle.semantics.specs.Presence.{presenceWith, valuesWith, dropped, mixes, before, presence, values, answered}
 
 -- all are Neutral
 abbrev pub onlyNeutral : List Truth → Bool
@@ -110,23 +110,23 @@ answered-unknown b h = eqb-true b 1 (by (eqb b 0) (eqb b 1) (eqb b 2) (eqb b 3) 
 module _ (oracle : ℕ → Result Truth) where
   -- a choice that mixes is turned back with 7, whatever the answers: Or
   pub or-mixes : (n : ℕ) (es : Exprs) → mixes es ≡ true → presence oracle n (join Or es) ≡ refuse ChoiceOverNeutral
-  unfolding presence
+  unfolding presenceWith
   or-mixes n es h = rw h
 
   -- the same of Xor
   pub xor-mixes : (n : ℕ) (es : Exprs) → mixes es ≡ true → presence oracle n (join Xor es) ≡ refuse ChoiceOverNeutral
-  unfolding presence
+  unfolding presenceWith
   xor-mixes n es h = rw h
 
   -- a dropped operand is passed over
   pub values-dropped : (n : ℕ) (e : Expr) (es : Exprs) → dropped e ≡ true → values oracle true n (e ◂ es) ≡ values oracle true (n + count e) es
-  unfolding values
+  unfolding valuesWith
   values-dropped n e es h = rw h
 
   -- a kept operand is evaluated before those after it
   pub values-kept : (choosing : Bool) (n : ℕ) (e : Expr) (es : Exprs) → (choosing && dropped e) ≡ false
       → values oracle choosing n (e ◂ es) ≡ before (presence oracle n e) (values oracle choosing (n + count e) es)
-  unfolding values
+  unfolding valuesWith
   values-kept choosing n e es h = rw h
 
   -- so of several refusals the leftmost is returned

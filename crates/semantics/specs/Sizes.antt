@@ -13,7 +13,7 @@ use Rattle.grammar.specs.Expr.{Expr, Exprs, cite, Then, join, none, more, citat
 use Rattle.grammar.specs.Bytes.{twoBytes}
 use Rattle.grammar.specs.Bounds.{concat-append}
 use Rattle.semantics.specs.Rules.{isFalse}
-use Rattle.semantics.specs.Truth.{citedTruth}
+use Rattle.semantics.specs.Truth.{Counts}
 use Rattle.semantics.specs.Violations.{violated, violatedOf, numberBytes}
 use Rattle.semantics.specs.Packages.{isPaket, paketSize, bytesUpTo, paketBytes, readRow, rowOf, rowsOf}
 
@@ -23,7 +23,7 @@ unfolding numberBytes twoBytes
 numbers-length [] = refl
 numbers-length (n ∷ ns) = omega (arith, numbers-length ns)
 
-module _ (value : List ℕ) where
+module _ (counts : Counts) where
   one-at-most : (b : Bool) (n : ℕ) → length (cond b (n ∷ []) []) ≤ 1
   one-at-most true n = omega arith
   one-at-most false n = omega arith
@@ -32,15 +32,15 @@ module _ (value : List ℕ) where
     unfolding violated citations
 
     -- no more than there are citations
-    pub violated-few : (n : ℕ) (e : Expr) → length (violated value n e) ≤ count e
-    violated-few n (cite t) = one-at-most (isFalse (citedTruth value t)) n
+    pub violated-few : (n : ℕ) (e : Expr) → length (violated counts n e) ≤ count e
+    violated-few n (cite t) = one-at-most (isFalse (counts n t)) n
     violated-few n (Then es) = violated-few-of n es
     violated-few n (join o es) = violated-few-of n es
 
-    violated-few-of : (n : ℕ) (es : Exprs) → length (violatedOf value n es) ≤ length (citationsOf es)
+    violated-few-of : (n : ℕ) (es : Exprs) → length (violatedOf counts n es) ≤ length (citationsOf es)
     violated-few-of n none = omega arith
     violated-few-of n (more e es) =
-        omega (arith, violated-few n e, violated-few-of (n + count e) es, length-append (citations e) (citationsOf es), length-append (violated value n e) (violatedOf value (n + count e) es))
+        omega (arith, violated-few n e, violated-few-of (n + count e) es, length-append (citations e) (citationsOf es), length-append (violated counts n e) (violatedOf counts (n + count e) es))
 
 -- a package row has its size
 pub row-length : (n : ℕ) (p : Paket) → length (paketBytes n p) ≡ paketSize

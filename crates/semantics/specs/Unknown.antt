@@ -16,9 +16,9 @@ use Rattle.formats.specs.Table.{verdict}
 use Rattle.formats.specs.Answers.{verdictTruth}
 use Rattle.grammar.specs.Expr.{And, Or, Xor, Expr, Exprs, cite, Then, join, none, more, Two, Wide, Wides, citations, citationsOf, count}
 use Rattle.semantics.specs.Rules.{isFalse, isUnknown, isTrue, isNeutral, any, andRule, orRule, twoTrue, xorRule}
-use Rattle.semantics.specs.Presence.{dropped, mixes, choice, before, valued, presence, values}
+use Rattle.semantics.specs.Presence.{presenceWith, dropped, mixes, choice, before, valued, presence, values}
 use Rattle.semantics.specs.Evaluated.{evaluates, evaluatesOf, first-evaluated, rest-evaluated}
-use Rattle.semantics.specs.Truth.{isJudged, citedTruth, truth, truths}
+use Rattle.semantics.specs.Truth.{isJudged, truthWith, truthsWith, citedTruth, countsOn}
 
 is-unknown : (v : Truth) → isUnknown v ≡ true → v ≡ Unknown
 is-unknown False h = absurd (false≢true h)
@@ -74,8 +74,8 @@ unfolding map-ok
 given rule tell (ok vs) h = let same : rule vs ≡ Unknown = cc in (vs, refl, tell vs (ap isUnknown same))
 given rule tell (refused k) h = absurd (refused≢ok h)
 
-given-choice : (rule : List Truth → Truth) → Telling rule → (es : Exprs) (r : Result (List Truth)) → choice rule es r ≡ ok Unknown → Given r
-given-choice rule tell es r h = given rule tell r (unless-ok (not (mixes es)) ChoiceOverNeutral (map-ok rule r) Unknown h .1)
+given-choice : (rule : List Truth → Truth) → Telling rule → (mixed : Bool) (r : Result (List Truth)) → choice mixed rule r ≡ ok Unknown → Given r
+given-choice rule tell mixed r h = given rule tell r (unless-ok (not mixed) ChoiceOverNeutral (map-ok rule r) Unknown h .1)
 
 -- an Unknown among an operand's value and the others
 split : (d : Bool) (v : Result Truth) (r : Result (List Truth)) (vs : List Truth) → valued d v r ≡ ok vs → any isUnknown vs ≡ true
@@ -96,15 +96,15 @@ module _ (oracle : ℕ → Result Truth) where
     pub answer : oracle number ≡ ok Unknown
 
   mutual
-    unfolding presence evaluates any
+    unfolding presenceWith evaluates any
 
     -- an Unknown presence comes from a citation that is evaluated and answered with Unknown
     pub unknown-cited : (n : ℕ) (e : Expr) → presence oracle n e ≡ ok Unknown → UnknownAmong (λ k. evaluates k n e)
     unknown-cited n (cite t) h = record { number = n; isEvaluated = eq-eqb n n refl; answer = h }
     unknown-cited n (Then es) h = values-unknown false n es (given andRule and-telling _ h)
     unknown-cited n (join And es) h = values-unknown false n es (given andRule and-telling _ h)
-    unknown-cited n (join Or es) h = values-unknown true n es (given-choice orRule or-telling es _ h)
-    unknown-cited n (join Xor es) h = values-unknown true n es (given-choice xorRule xor-telling es _ h)
+    unknown-cited n (join Or es) h = values-unknown true n es (given-choice orRule or-telling (mixes es) _ h)
+    unknown-cited n (join Xor es) h = values-unknown true n es (given-choice xorRule xor-telling (mixes es) _ h)
 
     values-unknown : (choosing : Bool) (n : ℕ) (es : Exprs) → Given (values oracle choosing n es) → UnknownAmong (λ k. evaluatesOf k choosing n es)
     values-unknown choosing n none g = let same : [] ≡ g .0 = cc in absurd (false≢true (ap (any isUnknown) same ∙ g .2))
@@ -137,27 +137,27 @@ module _ (value : List ℕ) where
       go false v p q h = absurd (false≢true h)
 
   mutual
-    unfolding truth citations any
+    unfolding truthWith citations any
 
     -- format truth is Unknown only if a cited Format or Zeitpunkt condition is Unregistered
-    pub truth-unknown-cited : (e : Expr) → isUnknown (truth value e) ≡ true → UnregisteredAmong (citations e)
-    truth-unknown-cited (cite t) h = unregistered-cited t h
-    truth-unknown-cited (Then es) h = truths-unknown es (and-telling (truths value es) h)
-    truth-unknown-cited (join And es) h = truths-unknown es (and-telling (truths value es) h)
-    truth-unknown-cited (join Or es) h = truths-unknown es (or-telling (truths value es) h)
-    truth-unknown-cited (join Xor es) h = truths-unknown es (or-telling (truths value es) h)
+    pub truth-unknown-cited : (n : ℕ) (e : Expr) → isUnknown (truthWith (countsOn value) n e) ≡ true → UnregisteredAmong (citations e)
+    truth-unknown-cited n (cite t) h = unregistered-cited t h
+    truth-unknown-cited n (Then es) h = truths-unknown n es (and-telling (truthsWith (countsOn value) n es) h)
+    truth-unknown-cited n (join And es) h = truths-unknown n es (and-telling (truthsWith (countsOn value) n es) h)
+    truth-unknown-cited n (join Or es) h = truths-unknown n es (or-telling (truthsWith (countsOn value) n es) h)
+    truth-unknown-cited n (join Xor es) h = truths-unknown n es (or-telling (truthsWith (countsOn value) n es) h)
 
-    truths-unknown : (es : Exprs) → any isUnknown (truths value es) ≡ true → UnregisteredAmong (citationsOf es)
-    truths-unknown none h = absurd (false≢true h)
-    truths-unknown (more e es) h =
+    truths-unknown : (n : ℕ) (es : Exprs) → any isUnknown (truthsWith (countsOn value) n es) ≡ true → UnregisteredAmong (citationsOf es)
+    truths-unknown n none h = absurd (false≢true h)
+    truths-unknown n (more e es) h =
         ⊎-elim
         (λ l.
-        let s = truth-unknown-cited e l in
+        let s = truth-unknown-cited n e l in
         record { text = s .text; cited = Memᴰ·append-left (citationsOf es) (s .cited); judged = s .judged; unregistered = s .unregistered })
         (λ r.
-        let s = truths-unknown es r in
+        let s = truths-unknown (n + count e) es r in
         record { text = s .text; cited = Memᴰ·append-right (citations e) (s .cited); judged = s .judged; unregistered = s .unregistered })
-        (or-cases (isUnknown (truth value e)) (any isUnknown (truths value es)) h)
+        (or-cases (isUnknown (truthWith (countsOn value) n e)) (any isUnknown (truthsWith (countsOn value) (n + count e) es)) h)
 
   and-filled : (v : Truth) (vs : List Truth) → isNeutral v ≡ false → isNeutral (andRule (v ∷ vs)) ≡ false
   unfolding andRule any
@@ -196,29 +196,29 @@ module _ (value : List ℕ) where
       go false v = refl
 
   -- operands, the first of which is never Neutral
-  abbrev Filled : Exprs → Type 0
-  Filled none = ⊥
-  Filled (more e es) = isNeutral (truth value e) ≡ false
+  abbrev Filled : ℕ → Exprs → Type 0
+  Filled n none = ⊥
+  Filled n (more e es) = isNeutral (truthWith (countsOn value) n e) ≡ false
 
-  and-first : (es : Exprs) → Filled es → isNeutral (andRule (truths value es)) ≡ false
-  unfolding truths
-  and-first (more e es) h = and-filled (truth value e) (truths value es) h
+  and-first : (n : ℕ) (es : Exprs) → Filled n es → isNeutral (andRule (truthsWith (countsOn value) n es)) ≡ false
+  unfolding truthWith
+  and-first n (more e es) h = and-filled (truthWith (countsOn value) n e) (truthsWith (countsOn value) (n + count e) es) h
 
-  or-first : (es : Exprs) → Filled es → isNeutral (orRule (truths value es)) ≡ false
-  unfolding truths
-  or-first (more e es) h = or-filled (truth value e) (truths value es) h
+  or-first : (n : ℕ) (es : Exprs) → Filled n es → isNeutral (orRule (truthsWith (countsOn value) n es)) ≡ false
+  unfolding truthWith
+  or-first n (more e es) h = or-filled (truthWith (countsOn value) n e) (truthsWith (countsOn value) (n + count e) es) h
 
   mutual
-    unfolding truth
+    unfolding truthWith
 
     -- format truth is False, Unknown or True
-    pub truth-filled : (e : Expr) → Wide e → isNeutral (truth value e) ≡ false
-    truth-filled (cite t) w = cited-filled t
-    truth-filled (Then es) w = and-first es (first-filled es (w .0) (w .1))
-    truth-filled (join And es) w = and-first es (first-filled es (w .0) (w .1))
-    truth-filled (join Or es) w = or-first es (first-filled es (w .0) (w .1))
-    truth-filled (join Xor es) w = or-first es (first-filled es (w .0) (w .1))
+    pub truth-filled : (n : ℕ) (e : Expr) → Wide e → isNeutral (truthWith (countsOn value) n e) ≡ false
+    truth-filled n (cite t) w = cited-filled t
+    truth-filled n (Then es) w = and-first n es (first-filled n es (w .0) (w .1))
+    truth-filled n (join And es) w = and-first n es (first-filled n es (w .0) (w .1))
+    truth-filled n (join Or es) w = or-first n es (first-filled n es (w .0) (w .1))
+    truth-filled n (join Xor es) w = or-first n es (first-filled n es (w .0) (w .1))
 
-    first-filled : (es : Exprs) → Two es → Wides es → Filled es
-    first-filled none t w = t
-    first-filled (more e es) t w = truth-filled e (w .0)
+    first-filled : (n : ℕ) (es : Exprs) → Two es → Wides es → Filled n es
+    first-filled n none t w = t
+    first-filled n (more e es) t w = truth-filled n e (w .0)

@@ -5,13 +5,13 @@ use Prim.Native.Nat.{ℕ, _+_}
 use Rattle.grammar.specs.Expr.{Expr, Exprs, cite, Then, join, none, more, count}
 use Rattle.grammar.specs.Bytes.{twoBytes}
 use Rattle.semantics.specs.Rules.{isFalse}
-use Rattle.semantics.specs.Truth.{citedTruth, truth}
+use Rattle.semantics.specs.Truth.{Counts, truthWith, countsOn}
 
-module _ (value : List ℕ) where
+module _ (counts : Counts) where
   unfoldable mutual
-    -- the numbers of an expression's violated citations, in order, its first citation having the number n
+    -- the numbers of an expression's violated citations, those that count as False, in order, its first citation having the number n
     pub violated : ℕ → Expr → List ℕ
-    violated n (cite t) = cond (isFalse (citedTruth value t)) (n ∷ []) []
+    violated n (cite t) = cond (isFalse (counts n t)) (n ∷ []) []
     violated n (Then es) = violatedOf n es
     violated n (join o es) = violatedOf n es
 
@@ -20,9 +20,13 @@ module _ (value : List ℕ) where
     violatedOf n none = []
     violatedOf n (more e es) = violated n e ++ violatedOf (n + count e) es
 
-  -- the violations: the numbers of all violated citations if the format truth is False, else none
-  unfoldable pub violations : Expr → List ℕ
-  violations e = cond (isFalse (truth value e)) (violated 0 e) []
+  -- the numbers of all violated citations if the format truth is False, else none
+  unfoldable pub violationsWith : Expr → List ℕ
+  violationsWith e = cond (isFalse (truthWith counts 0 e)) (violated 0 e) []
+
+-- the violations of an expression on a value
+abbrev pub violations : (value : List ℕ) → Expr → List ℕ
+violations value = violationsWith (countsOn value)
 
 -- numbers as bytes, two each
 unfoldable pub numberBytes : List ℕ → List ℕ

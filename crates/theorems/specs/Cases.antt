@@ -32,8 +32,8 @@ use Rattle.grammar.specs.Reading.{someToken, few, shallow, tree, expression, re
 use Rattle.grammar.specs.Rows.{opKind, many, node, rows, firsts, rests, made, first, place, build}
 use Rattle.grammar.specs.Bytes.{twoBytes, rowBytes, citeBytes, headBytes, packed, bytesOf, rowsFrom, citedFrom, headOk, sizeOf, tiles, rowOk, rowsOk, citesOk, isTree, forestAt, treeAt, treeOf}
 use Rattle.grammar.specs.Quoted.{bytes}
-use Rattle.semantics.specs.Rules.{any, andRule, orRule, twoTrue, xorRule}
-use Rattle.semantics.specs.Presence.{onlyHinweise, gates, someGate, someFree, before, presence, answered, answersFit}
+use Rattle.semantics.specs.Rules.{any, every, andRule, orRule, twoTrue, xorRule}
+use Rattle.semantics.specs.Presence.{someGateWith, someFreeWith, before, presenceWith, answered, answersFit}
 use Rattle.grammar.specs.Outcome.{answerOf, parseAnswer, displayAnswer}
 use Rattle.semantics.specs.Answers.{evalAnswer}
 
@@ -111,5 +111,5 @@ wanted (x ∷ xs) = x .1 ∷ wanted xs
 
 -- every case holds
 pub cases-hold : said cases ≡ wanted cases
-unfolding reading admitted isUtf8 decode encodeChar leadOf expression then map-ok lex outer inner part isWhite symbol blank tree someToken few texts concat shallow parse read value whole gather grow led same _⧺_ parseAnswer displayAnswer answerOf evalAnswer print bracketed signBytes treeOf isTree headOk tiles sizeOf rowsFrom citedFrom rowsOk rowOk citesOk citable holds treeAt forestAt first build place made firsts rests bytesOf packed headBytes rowBytes citeBytes twoBytes rows node opKind many citations answersFit presence answered before andRule orRule xorRule twoTrue any someGate someFree onlyHinweise gates kindOf kindOfNumber numberUpTo verdict ruleOf judged against integerOf fractionOf fractionAtMost dayBoundary momentOf existingOf yearOf fieldOf isDate isTime isMesz lastSunday monthDays
+unfolding reading admitted isUtf8 decode encodeChar leadOf expression then map-ok lex outer inner part isWhite symbol blank tree someToken few texts concat shallow parse read value whole gather grow led same _⧺_ parseAnswer displayAnswer answerOf evalAnswer print bracketed signBytes treeOf isTree headOk tiles sizeOf rowsFrom citedFrom rowsOk rowOk citesOk citable holds treeAt forestAt first build place made firsts rests bytesOf packed headBytes rowBytes citeBytes twoBytes rows node opKind many citations answersFit presenceWith answered before andRule orRule xorRule twoTrue any every someGateWith someFreeWith kindOf kindOfNumber numberUpTo verdict ruleOf judged against integerOf fractionOf fractionAtMost dayBoundary momentOf existingOf yearOf fieldOf isDate isTime isMesz lastSunday monthDays
 cases-hold = refl

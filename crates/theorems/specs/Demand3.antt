@@ -18,6 +18,7 @@ use Rattle.grammar.specs.Theorems as grammar
 use Rattle.grammar.specs.Theorems.{WasRead, asExpression, afterStatus, read-fits, flat-fits, tree-of-bytes}
 use Rattle.semantics.specs.Presence.{oracleOf}
 use Rattle.grammar.specs.Outcome.{Written, Outcome, answerOf, writtenOf, withLength, parseAnswer, displayAnswer, StatusSaid, wordAlone, withTree, withStatus, statedBytes, statusAnswer, answer-fits, written-fits, answer-short, written-short, written-back, accepted}
+use Rattle.semantics.specs.Truth.{countsOn}
 use Rattle.semantics.specs.Answers.{evalAnswer, truthAnswer, violationsAnswer, evalAndTruthAnswer, paketeAnswer}
 use Rattle.semantics.specs.Flat as flats
 
@@ -215,16 +216,16 @@ module _ (e : Expr) (f : Fits e) where
 
   truth-flat : (value : List ℕ) → truthAnswer (bytesOf (flat e)) value ≡ truthAnswer (bytesOf e) value
   unfolding truthAnswer then
-  truth-flat value = rw (flat-is, tree-is, flats.truth-flat value e)
+  truth-flat value = rw (flat-is, tree-is, flats.truth-flat (countsOn value) 0 e)
 
   violations-flat : (value : List ℕ) → violationsAnswer (bytesOf (flat e)) value ≡ violationsAnswer (bytesOf e) value
   unfolding violationsAnswer then
-  violations-flat value = rw (flat-is, tree-is, flats.violations-flat value e)
+  violations-flat value = rw (flat-is, tree-is, flats.violations-flat (countsOn value) e)
 
   both-flat : (answers value : List ℕ) → evalAndTruthAnswer (bytesOf (flat e)) answers value ≡ evalAndTruthAnswer (bytesOf e) answers value
   unfolding evalAndTruthAnswer then
   both-flat answers value =
-      rw (flat-is, tree-is, flats.fit-flat e answers, flats.truth-flat value e, flats.presence-flat (oracleOf answers) 0 e)
+      rw (flat-is, tree-is, flats.fit-flat e answers, flats.truth-flat (countsOn value) 0 e, flats.presence-flat (oracleOf answers) 0 e)
 
   pakete-flat : paketeAnswer (bytesOf (flat e)) ≡ paketeAnswer (bytesOf e)
   unfolding paketeAnswer map-ok

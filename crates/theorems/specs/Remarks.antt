@@ -96,7 +96,7 @@ truth-unknown-cited tree value h =
     let p = admitted-ok valueLimit value (ok (truth value (t .0))) Unknown (t .2) in
     let same : ok (truth value (t .0)) ≡ ok Unknown = p .1 in
     let one : truth value (t .0) ≡ Unknown = cc in
-    (t .0, t .1, unknown.truth-unknown-cited value (t .0) (ap isUnknown one))
+    (t .0, t .1, unknown.truth-unknown-cited value 0 (t .0) (ap isUnknown one))
 
 -- one of the refusals that format truth can give
 abbrev pub TruthRefusal : ℕ → Type 0
@@ -126,4 +126,4 @@ truth-filled tree value i v h =
     let p = admitted-ok valueLimit value (ok (truth value (t .0))) v (t .2) in
     let same : ok (truth value (t .0)) ≡ ok v = p .1 in
     let one : truth value (t .0) ≡ v = cc in
-    sym (ap isNeutral one) ∙ unknown.truth-filled value (t .0) (f .wide)
+    sym (ap isNeutral one) ∙ unknown.truth-filled value 0 (t .0) (f .wide)

@@ -17,14 +17,14 @@ use Rattle.citation.specs.declared.Truth.the-variants.{False, Unknown, True, Ne
 use Rattle.formats.specs.declared.FormatVerdict.{FormatVerdict}
 use Rattle.formats.specs.Table.{verdict}
 use Rattle.formats.specs.Answers.{verdictTruth}
-use Rattle.grammar.specs.Expr.{And, Or, Xor, Expr, Exprs, cite, Then, join, none, more, _◂_, _⧺_, citations, citationsOf, count, citations-append}
+use Rattle.grammar.specs.Expr.{And, Or, Xor, Expr, Exprs, cite, Then, join, none, _◂_, _⧺_, citations, citationsOf, count, citations-append}
 use Rattle.grammar.specs.Rows.{opKind, span, firsts, children}
 use Rattle.grammar.specs.Sizes.{few-nodes}
 use Rattle.grammar.specs.Bytes.{twoBytes, nodes, cites, isTree, forestAt, treeAt}
 use Rattle.grammar.specs.Outcome.{Outcome, answerOf, writtenOf, answer-fits, written-fits, answer-short, written-short}
 use Rattle.semantics.specs.Rules.{isFalse, isUnknown, isTrue, any, andRule, orRule}
-use Rattle.semantics.specs.Truth.{isJudged, citedTruth, truth, truths}
-use Rattle.semantics.specs.Violations.{violated, violatedOf, violations, numberBytes}
+use Rattle.semantics.specs.Truth.{isJudged, truthWith, truthsWith, citedTruth, countsOn, truth}
+use Rattle.semantics.specs.Violations.{violated, violatedOf, violationsWith, violations, numberBytes}
 use Rattle.semantics.specs.Sizes.{numbers-length, violated-few}
 use Rattle.semantics.specs.Presence.{answersFit}
 use Rattle.semantics.specs.Answers.{presenceBy, numbered, truthAnswer, violationsAnswer, evalAndTruthAnswer}
@@ -106,16 +106,16 @@ tally-none = refl
 
 module _ (value : List ℕ) where
   -- a node's truth, by its operands'
-  pub node-truth : (e : Expr) → (nodeKind e ≡ 0 → ⊥) → ruleOf (nodeKind e) (tallyOf (truths value (children e))) ≡ truth value e
-  unfolding ruleOf tallyOf nodeKind opKind children truth andRule orRule
-  node-truth (cite t) h = absurd (h refl)
-  node-truth (Then es) h = refl
-  node-truth (join And es) h = refl
-  node-truth (join Or es) h = refl
-  node-truth (join Xor es) h = refl
+  pub node-truth : (n : ℕ) (e : Expr) → (nodeKind e ≡ 0 → ⊥) → ruleOf (nodeKind e) (tallyOf (truthsWith (countsOn value) n (children e))) ≡ truthWith (countsOn value) n e
+  unfolding ruleOf tallyOf nodeKind opKind children truthWith andRule orRule
+  node-truth n (cite t) h = absurd (h refl)
+  node-truth n (Then es) h = refl
+  node-truth n (join And es) h = refl
+  node-truth n (join Or es) h = refl
+  node-truth n (join Xor es) h = refl
 
   -- and its numbers
-  pub node-violated : (n : ℕ) (e : Expr) → (nodeKind e ≡ 0 → ⊥) → violatedOf value n (children e) ≡ violated value n e
+  pub node-violated : (n : ℕ) (e : Expr) → (nodeKind e ≡ 0 → ⊥) → violatedOf (countsOn value) n (children e) ≡ violated (countsOn value) n e
   unfolding nodeKind children violated
   node-violated n (cite t) h = absurd (h refl)
   node-violated n (Then es) h = refl
@@ -130,18 +130,18 @@ numbers-append (n ∷ a) b = ap (λ x. twoBytes n ++ x) (numbers-append a b) ∙
 pub record State (value b : List ℕ) (row left child : ℕ) (tally : Tally) (at : ℕ) (base list : List ℕ) (w : ℕ) : Type 0 where
   pub walk : Walk b row left child
   pub vs : List Truth
-  pub judged : truths value (children (treeAt b row)) ≡ vs ++ truths value (firsts left (forestAt b child))
+  pub judged : truthsWith (countsOn value) (firstAt b row) (children (treeAt b row)) ≡ vs ++ truthsWith (countsOn value) (firstAt b child) (firsts left (forestAt b child))
   pub tallied : tally ≡ tallyOf vs
   pub ns : List ℕ
-  pub numbers : violatedOf value (firstAt b row) (children (treeAt b row)) ≡ ns ++ violatedOf value (firstAt b child) (firsts left (forestAt b child))
+  pub numbers : violatedOf (countsOn value) (firstAt b row) (children (treeAt b row)) ≡ ns ++ violatedOf (countsOn value) (firstAt b child) (firsts left (forestAt b child))
   pub written : Appended (numberBytes ns) at base list w
   pub kept : length list ≡ length base
 
-truths-more : (value : List ℕ) (e : Expr) (es : Exprs) → truths value (e ◂ es) ≡ truth value e ∷ truths value es
-unfolding truths
-truths-more value e es = refl
+truths-more : (value : List ℕ) (n : ℕ) (e : Expr) (es : Exprs) → truthsWith (countsOn value) n (e ◂ es) ≡ truthWith (countsOn value) n e ∷ truthsWith (countsOn value) (n + count e) es
+unfolding truthsWith
+truths-more value n e es = refl
 
-violated-more : (value : List ℕ) (n : ℕ) (e : Expr) (es : Exprs) → violatedOf value n (e ◂ es) ≡ violated value n e ++ violatedOf value (n + count e) es
+violated-more : (value : List ℕ) (n : ℕ) (e : Expr) (es : Exprs) → violatedOf (countsOn value) n (e ◂ es) ≡ violated (countsOn value) n e ++ violatedOf (countsOn value) (n + count e) es
 unfolding violatedOf
 violated-more value n e es = refl
 
@@ -166,19 +166,19 @@ unfolding firsts
 firsts-zero zero es h = refl
 firsts-zero (suc left) es h = absurd (omega arith)
 
-no-truths : (value : List ℕ) (vs : List Truth) → vs ++ truths value none ≡ vs
-unfolding truths
-no-truths value vs = append-nil vs
+no-truths : (value : List ℕ) (n : ℕ) (vs : List Truth) → vs ++ truthsWith (countsOn value) n none ≡ vs
+unfolding truthsWith
+no-truths value n vs = append-nil vs
 
-no-numbers : (value : List ℕ) (n : ℕ) (ns : List ℕ) → ns ++ violatedOf value n none ≡ ns
+no-numbers : (value : List ℕ) (n : ℕ) (ns : List ℕ) → ns ++ violatedOf (countsOn value) n none ≡ ns
 unfolding violatedOf
 no-numbers value n ns = append-nil ns
 
-leaf-truth : (value t : List ℕ) (e : Expr) → e ≡ cite t → citedTruth value t ≡ truth value e
-unfolding truth
-leaf-truth value t e h = sym (ap (truth value) h)
+leaf-truth : (value : List ℕ) (n : ℕ) (t : List ℕ) (e : Expr) → e ≡ cite t → citedTruth value t ≡ truthWith (countsOn value) n e
+unfolding truthWith
+leaf-truth value n t e h = sym (ap (truthWith (countsOn value) n) h)
 
-leaf-numbers : (value : List ℕ) (n m : ℕ) (t : List ℕ) (e : Expr) → e ≡ cite t → n ≡ m → citedNumbers value n t ≡ numberBytes (violated value m e)
+leaf-numbers : (value : List ℕ) (n m : ℕ) (t : List ℕ) (e : Expr) → e ≡ cite t → n ≡ m → citedNumbers value n t ≡ numberBytes (violated (countsOn value) m e)
 unfolding citedNumbers violated
 leaf-numbers value n m t e h i = sym (rw (h, ← i))
 
@@ -191,10 +191,10 @@ module _ (value b : List ℕ) (tree : isTree b ≡ true) where
       record {
         walk = w;
         vs = [];
-        judged = ap (truths value) kids;
+        judged = ap (truthsWith (countsOn value) (firstAt b row)) kids ∙ ap (λ (x : ℕ). truthsWith (countsOn value) x (firsts (numberAt b row) (forestAt b (row + 1)))) (sym (first-below b tree row l k));
         tallied = tally-none;
         ns = [];
-        numbers = ap (violatedOf value (firstAt b row)) kids ∙ ap (λ (x : ℕ). violatedOf value x (firsts (numberAt b row) (forestAt b (row + 1)))) (sym (first-below b tree row l k));
+        numbers = ap (violatedOf (countsOn value) (firstAt b row)) kids ∙ ap (λ (x : ℕ). violatedOf (countsOn value) x (firsts (numberAt b row) (forestAt b (row + 1)))) (sym (first-below b tree row l k));
         written = same (sym no-bytes) (nothing at base);
         kept = refl;
       }
@@ -209,12 +209,19 @@ module _ (value b : List ℕ) (tree : isTree b ≡ true) where
     pub state-next : Next b row left child
     state-next = walk-next b tree row left child (s .walk) h
 
-    cut-numbers : violatedOf value (firstAt b child) (firsts left (forestAt b child)) ≡ violated value (firstAt b child) (treeAt b child) ++ violatedOf value (firstAt b (child + span (treeAt b child))) (firsts (left - 1) (forestAt b (child + span (treeAt b child))))
+    cut-numbers : violatedOf (countsOn value) (firstAt b child) (firsts left (forestAt b child)) ≡ violated (countsOn value) (firstAt b child) (treeAt b child) ++ violatedOf (countsOn value) (firstAt b (child + span (treeAt b child))) (firsts (left - 1) (forestAt b (child + span (treeAt b child))))
     cut-numbers =
         let e = treeAt b child in
         let rest = firsts (left - 1) (forestAt b (child + span e)) in
-        ap (violatedOf value (firstAt b child)) (state-next .splits) ∙ violated-more value (firstAt b child) e rest
-        ∙ ap (λ (x : ℕ). violated value (firstAt b child) e ++ violatedOf value x rest) (sym (next-first b row left child (s .walk) state-next))
+        ap (violatedOf (countsOn value) (firstAt b child)) (state-next .splits) ∙ violated-more value (firstAt b child) e rest
+        ∙ ap (λ (x : ℕ). violated (countsOn value) (firstAt b child) e ++ violatedOf (countsOn value) x rest) (sym (next-first b row left child (s .walk) state-next))
+
+    cut-truths : truthsWith (countsOn value) (firstAt b child) (firsts left (forestAt b child)) ≡ truthWith (countsOn value) (firstAt b child) (treeAt b child) ∷ truthsWith (countsOn value) (firstAt b (child + span (treeAt b child))) (firsts (left - 1) (forestAt b (child + span (treeAt b child))))
+    cut-truths =
+        let e = treeAt b child in
+        let rest = firsts (left - 1) (forestAt b (child + span e)) in
+        ap (truthsWith (countsOn value) (firstAt b child)) (state-next .splits) ∙ truths-more value (firstAt b child) e rest
+        ∙ ap (λ (x : ℕ). truthWith (countsOn value) (firstAt b child) e ∷ truthsWith (countsOn value) x rest) (sym (next-first b row left child (s .walk) state-next))
 
     -- there is room for its numbers
     pub state-room : at + length (numbersAt value b row) ≤ length base → (nodeKind (treeAt b row) ≡ 0 → ⊥) → w + length (numbersAt value b child) ≤ length list
@@ -222,10 +229,10 @@ module _ (value b : List ℕ) (tree : isTree b ≡ true) where
     state-room room k =
         let first = firstAt b row in
         let e = treeAt b child in
-        let here = violated value (firstAt b child) e in
-        let after = violatedOf value (firstAt b (child + span e)) (firsts (left - 1) (forestAt b (child + span e))) in
+        let here = violated (countsOn value) (firstAt b child) e in
+        let after = violatedOf (countsOn value) (firstAt b (child + span e)) (firsts (left - 1) (forestAt b (child + span e))) in
         let all = sym (node-violated value first (treeAt b row) k) ∙ s .numbers ∙ ap (λ x. s .ns ++ x) cut-numbers in
-        omega (arith, room, s .kept, s .written .ends, numbers-length (violated value first (treeAt b row)), numbers-length (s .ns), numbers-length here, ap length all, length-append (s .ns) (here ++ after), length-append here after)
+        omega (arith, room, s .kept, s .written .ends, numbers-length (violated (countsOn value) first (treeAt b row)), numbers-length (s .ns), numbers-length here, ap length all, length-append (s .ns) (here ++ after), length-append here after)
 
     -- after it
     pub state-again : {new : List ℕ} (size : ℕ) (r : Judged) → size ≡ span (treeAt b child) → RowJudged value b child w list new r → length new ≡ length list → {after : Tally} → after ≡ withTruth tally (r .truth)
@@ -234,15 +241,16 @@ module _ (value b : List ℕ) (tree : isTree b ≡ true) where
     state-again {new} size r z j k {after} t =
         let e = treeAt b child in
         let rest = firsts (left - 1) (forestAt b (child + span e)) in
-        let here = violated value (firstAt b child) e in
+        let one = truthWith (countsOn value) (firstAt b child) e in
+        let here = violated (countsOn value) (firstAt b child) e in
         let next : State value b row (left - 1) (child + span e) after at base new (r .at) =
         record {
           walk = state-next .walk;
-          vs = s .vs ++ (truth value e ∷ []);
-          judged = s .judged ∙ ap (λ x. s .vs ++ truths value x) (state-next .splits) ∙ ap (λ x. s .vs ++ x) (truths-more value e rest) ∙ sym (append-assoc (s .vs) (truth value e ∷ []) (truths value rest));
-          tallied = t ∙ ap (λ x. withTruth x (r .truth)) (s .tallied) ∙ ap (withTruth (tallyOf (s .vs))) (j .is) ∙ tally-next (s .vs) (truth value e);
+          vs = s .vs ++ (one ∷ []);
+          judged = s .judged ∙ ap (λ x. s .vs ++ x) cut-truths ∙ sym (append-assoc (s .vs) (one ∷ []) (truthsWith (countsOn value) (firstAt b (child + span e)) rest));
+          tallied = t ∙ ap (λ x. withTruth x (r .truth)) (s .tallied) ∙ ap (withTruth (tallyOf (s .vs))) (j .is) ∙ tally-next (s .vs) one;
           ns = s .ns ++ here;
-          numbers = s .numbers ∙ ap (λ x. s .ns ++ x) cut-numbers ∙ sym (append-assoc (s .ns) here (violatedOf value (firstAt b (child + span e)) rest));
+          numbers = s .numbers ∙ ap (λ x. s .ns ++ x) cut-numbers ∙ sym (append-assoc (s .ns) here (violatedOf (countsOn value) (firstAt b (child + span e)) rest));
           written = same (sym (numbers-append (s .ns) here)) (both (s .written) (j .written));
           kept = k ∙ s .kept;
         } in
@@ -254,12 +262,12 @@ module _ (value b : List ℕ) (tree : isTree b ≡ true) where
   unfolding numbersAt
   state-ends {row} {left} {child} {at} {tally} {base} {list} {w} s h kind g k r t q =
       let no : nodeKind (treeAt b row) ≡ 0 → ⊥ = λ y. k (g ∙ y) in
-      let vs : truths value (children (treeAt b row)) ≡ s .vs = s .judged ∙ ap (λ x. s .vs ++ truths value x) (firsts-zero left (forestAt b child) h) ∙ no-truths value (s .vs) in
-      let ns : violatedOf value (firstAt b row) (children (treeAt b row)) ≡ s .ns = s .numbers ∙ ap (λ x. s .ns ++ violatedOf value (firstAt b child) x) (firsts-zero left (forestAt b child) h) ∙ no-numbers value (firstAt b child) (s .ns) in
-      let bytes : numberBytes (s .ns) ≡ numberBytes (violated value (firstAt b row) (treeAt b row)) = ap numberBytes (sym ns ∙ node-violated value (firstAt b row) (treeAt b row) no) in
+      let vs : truthsWith (countsOn value) (firstAt b row) (children (treeAt b row)) ≡ s .vs = s .judged ∙ ap (λ x. s .vs ++ truthsWith (countsOn value) (firstAt b child) x) (firsts-zero left (forestAt b child) h) ∙ no-truths value (firstAt b child) (s .vs) in
+      let ns : violatedOf (countsOn value) (firstAt b row) (children (treeAt b row)) ≡ s .ns = s .numbers ∙ ap (λ x. s .ns ++ violatedOf (countsOn value) (firstAt b child) x) (firsts-zero left (forestAt b child) h) ∙ no-numbers value (firstAt b child) (s .ns) in
+      let bytes : numberBytes (s .ns) ≡ numberBytes (violated (countsOn value) (firstAt b row) (treeAt b row)) = ap numberBytes (sym ns ∙ node-violated value (firstAt b row) (treeAt b row) no) in
       record {
-        is = t ∙ ap (λ (x : ℕ). ruleOf x tally) g ∙ ap (ruleOf (nodeKind (treeAt b row))) (s .tallied ∙ ap tallyOf (sym vs)) ∙ node-truth value (treeAt b row) no;
-        written = subst (λ (x : ℕ). Appended (numberBytes (violated value (firstAt b row) (treeAt b row))) at base list x) (sym q) (same bytes (s .written));
+        is = t ∙ ap (λ (x : ℕ). ruleOf x tally) g ∙ ap (ruleOf (nodeKind (treeAt b row))) (s .tallied ∙ ap tallyOf (sym vs)) ∙ node-truth value (firstAt b row) (treeAt b row) no;
+        written = subst (λ (x : ℕ). Appended (numberBytes (violated (countsOn value) (firstAt b row) (treeAt b row))) at base list x) (sym q) (same bytes (s .written));
       }
 
   -- a citation's row
@@ -268,7 +276,7 @@ module _ (value b : List ℕ) (tree : isTree b ≡ true) where
   leaf-judged {row} {n} {at} {old} {new} {r} l k e j =
       let f = leaf b tree row l k in
       let is : treeAt b row ≡ cite (textAt b n) = f .is ∙ ap (λ (x : ℕ). cite (textAt b x)) (sym e) in
-      record { is = j .is ∙ leaf-truth value (textAt b n) (treeAt b row) is; written = same (leaf-numbers value n (firstAt b row) (textAt b n) (treeAt b row) is (e ∙ f .first)) (j .written) }
+      record { is = j .is ∙ leaf-truth value (firstAt b row) (textAt b n) (treeAt b row) is; written = same (leaf-numbers value n (firstAt b row) (textAt b n) (treeAt b row) is (e ∙ f .first)) (j .written) }
 
   -- its number is a citation's, and there is room for it
   pub leaf-asked : (row n at size : ℕ) → row < nodes b → nodeKind (treeAt b row) ≡ 0 → n ≡ numberAt b row → at + length (numbersAt value b row) ≤ size → (n < cites b) × (at + length (citedNumbers value n (textAt b n)) ≤ size)
@@ -282,12 +290,16 @@ module _ (value b : List ℕ) (tree : isTree b ≡ true) where
   pub few-rows : nodes b ≤ nodeLimit
   few-rows = let r = root b tree in omega (arith, r .size, few-nodes (treeAt b 0) (r .fits))
 
+  -- the whole tree's truth
+  pub root-truth : truthWith (countsOn value) (firstAt b 0) (treeAt b 0) ≡ truth value (treeAt b 0)
+  root-truth = ap (λ (x : ℕ). truthWith (countsOn value) x (treeAt b 0)) (root b tree .first)
+
   -- all numbers fit into the list
   pub list-room : length (numbersAt value b 0) ≤ 512
   unfolding numbersAt
   list-room =
       let r = root b tree in
-      omega (arith, numbers-length (violated value (firstAt b 0) (treeAt b 0)), violated-few value (firstAt b 0) (treeAt b 0), r .fits .few)
+      omega (arith, numbers-length (violated (countsOn value) (firstAt b 0) (treeAt b 0)), violated-few (countsOn value) (firstAt b 0) (treeAt b 0), r .fits .few)
 
 module _ (b value : List ℕ) where
   -- 15
@@ -324,13 +336,13 @@ module _ (b value : List ℕ) where
     violations-turned old k a = (rw (turned-is k a), rw (turned-is k a))
 
     module _ (old : List ℕ) (r : Judged) {base list : List ℕ} (a : (o : Outcome ℕ) → admitted valueLimit value o ≡ o) (j : RowJudged value b 0 0 base list r) where
-      violations-are : isFalse (r .truth) ≡ true → violations value (treeAt b 0) ≡ violated value (firstAt b 0) (treeAt b 0)
-      unfolding violations
-      violations-are t = let yes : isFalse (truth value (treeAt b 0)) ≡ true = sym (ap isFalse (j .is)) ∙ t in rw (yes, root b tree .first)
+      violations-are : isFalse (r .truth) ≡ true → violations value (treeAt b 0) ≡ violated (countsOn value) (firstAt b 0) (treeAt b 0)
+      unfolding violationsWith
+      violations-are t = let yes : isFalse (truth value (treeAt b 0)) ≡ true = sym (ap isFalse (j .is ∙ root-truth value b tree)) ∙ t in rw (yes, root b tree .first)
 
       violations-none : isFalse (r .truth) ≡ false → violations value (treeAt b 0) ≡ []
-      unfolding violations
-      violations-none t = let no : isFalse (truth value (treeAt b 0)) ≡ false = sym (ap isFalse (j .is)) ∙ t in rw no
+      unfolding violationsWith
+      violations-none t = let no : isFalse (truth value (treeAt b 0)) ≡ false = sym (ap isFalse (j .is ∙ root-truth value b tree)) ∙ t in rw no
 
       bytes-are : isFalse (r .truth) ≡ true → numberBytes (violations value (treeAt b 0)) ≡ numbersAt value b 0
       unfolding numbersAt

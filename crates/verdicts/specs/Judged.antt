@@ -5,7 +5,7 @@ use mathlib.Core.Bool.{cond}
 use Prim.Native.Nat.{ℕ}
 use Rattle.grammar.specs.Bytes.{treeAt}
 use Rattle.semantics.specs.Rules.{isFalse}
-use Rattle.semantics.specs.Truth.{citedTruth, truth}
+use Rattle.semantics.specs.Truth.{citedTruth, countsOn, truthWith}
 use Rattle.semantics.specs.Violations.{violated, numberBytes}
 use Rattle.fields.specs.Appended.{Appended}
 use Rattle.tree.specs.Walk.{firstAt}
@@ -17,7 +17,7 @@ citedNumbers value n text = numberBytes (cond (isFalse (citedTruth value text)) 
 
 -- the bytes of the numbers of the violated citations in the subtree at a row
 unfoldable pub numbersAt : (value tree : List ℕ) (row : ℕ) → List ℕ
-numbersAt value tree row = numberBytes (violated value (firstAt tree row) (treeAt tree row))
+numbersAt value tree row = numberBytes (violated (countsOn value) (firstAt tree row) (treeAt tree row))
 
 -- a citation was judged: its truth, and its number written after the first `at` bytes if it is violated
 pub record CitedJudged (value : List ℕ) (n : ℕ) (text : List ℕ) (at : ℕ) (old new : List ℕ) (r : Judged) : Type 0 where
@@ -26,5 +26,5 @@ pub record CitedJudged (value : List ℕ) (n : ℕ) (text : List ℕ) (at : ℕ)
 
 -- the subtree at a row was judged: its truth, and its numbers written after the first `at` bytes
 pub record RowJudged (value tree : List ℕ) (row at : ℕ) (old new : List ℕ) (r : Judged) : Type 0 where
-  pub is : r .truth ≡ truth value (treeAt tree row)
+  pub is : r .truth ≡ truthWith (countsOn value) (firstAt tree row) (treeAt tree row)
   pub written : Appended (numbersAt value tree row) at old new (r .at)
