@@ -167,30 +167,26 @@ fn every(truths: &[Truth]) -> Truth {
 }
 
 fn some(truths: &[Truth]) -> Truth {
-    let left: Vec<Truth> = truths.iter().copied().filter(|one| *one != Neutral).collect();
-    if left.is_empty() {
+    if truths.iter().all(|one| *one == Neutral) {
         Neutral
-    } else if left.contains(&True) {
+    } else if truths.contains(&True) {
         True
-    } else if left.contains(&Unknown) {
+    } else if truths.contains(&Unknown) {
         Unknown
     } else {
         False
     }
 }
 
+/// As `some`, but two that are True make it False, and one that is True does not decide before one that is Unknown.
 fn exactly_one(truths: &[Truth]) -> Truth {
-    let left: Vec<Truth> = truths.iter().copied().filter(|one| *one != Neutral).collect();
-    if left.is_empty() {
-        Neutral
-    } else if left.iter().filter(|one| **one == True).count() >= 2 {
+    let count = truths.iter().filter(|one| **one == True).count();
+    if count >= 2 {
         False
-    } else if left.contains(&Unknown) {
+    } else if truths.contains(&Unknown) {
         Unknown
-    } else if left.contains(&True) {
-        True
     } else {
-        False
+        some(truths)
     }
 }
 

@@ -62,7 +62,7 @@ module _ (hint gate : List ℕ → Bool) where
   someGateWith none = false
   someGateWith (more e es) = (not (droppedWith e) && any gate (citations e)) || someGateWith es
 
-  -- a kept operand cites none
+  -- a kept operand cites no such text
   unfoldable pub someFreeWith : Exprs → Bool
   someFreeWith none = false
   someFreeWith (more e es) = (not (droppedWith e) && not (any gate (citations e))) || someFreeWith es
@@ -89,44 +89,44 @@ module _ (hint gate : List ℕ → Bool) where
 -- By the kinds of texts, as the public functions judge.
 
 -- the text is a Hinweis
-abbrev pub isHint : List ℕ → Bool
-isHint t = isHinweis (kindOf t)
+abbrev pub isHinweisText : List ℕ → Bool
+isHinweisText t = isHinweis (kindOf t)
 
 -- the text gates
-abbrev pub isGating : List ℕ → Bool
-isGating t = isGate (kindOf t)
+abbrev pub isGateText : List ℕ → Bool
+isGateText t = isGate (kindOf t)
 
 -- these texts are Hinweise only
 abbrev pub onlyHinweise : List (List ℕ) → Bool
-onlyHinweise = every isHint
+onlyHinweise = every isHinweisText
 
 -- one of these texts gates
 abbrev pub gates : List (List ℕ) → Bool
-gates = any isGating
+gates = any isGateText
 
 -- a choice drops the operand
 abbrev pub dropped : Expr → Bool
-dropped = droppedWith isHint isGating
+dropped = droppedWith isHinweisText isGateText
 
 -- a kept operand cites a Voraussetzung or a Paket
 abbrev pub someGate : Exprs → Bool
-someGate = someGateWith isHint isGating
+someGate = someGateWith isHinweisText isGateText
 
 -- a kept operand cites neither
 abbrev pub someFree : Exprs → Bool
-someFree = someFreeWith isHint isGating
+someFree = someFreeWith isHinweisText isGateText
 
 -- a choice mixes
 abbrev pub mixes : Exprs → Bool
-mixes = mixesWith isHint isGating
+mixes = mixesWith isHinweisText isGateText
 
 -- the presence of an expression, by an oracle and the number of its first citation
 abbrev pub presence : (oracle : ℕ → Result Truth) → ℕ → Expr → Result Truth
-presence = presenceWith isHint isGating
+presence = presenceWith isHinweisText isGateText
 
 -- the operands' values
 abbrev pub values : (oracle : ℕ → Result Truth) (choosing : Bool) → ℕ → Exprs → Result (List Truth)
-values = valuesWith isHint isGating
+values = valuesWith isHinweisText isGateText
 
 -- the answer byte of a citation whose evaluation failed
 abbrev pub failed : ℕ

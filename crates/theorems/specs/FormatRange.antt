@@ -1,11 +1,11 @@
 -- What moving the first Format number from 900 to 901 changed, for every tree, read or not. Presence, its refusals, the package rows and the
 -- violations are the same; a format truth is the same, or was Unknown and is True. Assumes nothing.
 use mathlib.Core.Path.{_≡_, refl, sym, ap, ap₂, _∙_, fun-ext}
-use mathlib.Core.List.{List, [], _∷_}
+use mathlib.Core.List.{List, [], _∷_, _++_}
 use mathlib.Core.Bool.{Bool, true, false, cond, not, _&&_, _||_, false≢true}
 use mathlib.Core.Logic.{_⊎_, inl, inr}
 use mathlib.Core.Option as option
-use Prim.Native.Nat.{ℕ, _+_}
+use Prim.Native.Nat.{ℕ, suc, _+_}
 use native.Mathlib.Omega.{arith}
 use lib.Dec.{eqb, leb}
 use lib.ListN.{length}
@@ -26,22 +26,23 @@ use Rattle.citation.specs.declared.ConditionKind.{ConditionKind}
 use Rattle.citation.specs.declared.ConditionKind.the-variants.{Voraussetzung, Hinweis, Format, Wiederholbarkeit, Zeitpunkt, Paket, Other}
 use Rattle.citation.specs.Kinds.{largestNumber, kindOf, kindOfNumber, kindOfFound}
 use Rattle.citation.proofs.Digits.{number-kind}
+use Rattle.citation.specs.Pakete.{paketOf}
 use Rattle.citation.specs.declared.Truth.{Truth}
 use Rattle.citation.specs.declared.Truth.the-variants.{Unknown, True}
 use Rattle.formats.specs.declared.FormatVerdict.the-variants.{Unregistered}
 use Rattle.formats.specs.Table.{Rows, rules, ruleOf, verdict}
 use Rattle.formats.specs.Answers.{verdictTruth}
-use Rattle.grammar.specs.Expr.{Expr, Exprs, cite, Then, join, none, more, count}
+use Rattle.grammar.specs.Expr.{Expr, Exprs, cite, Then, join, none, more, citations, count}
 use Rattle.grammar.specs.Bytes.{treeOf}
 use Rattle.grammar.specs.Outcome.{Outcome}
 use Rattle.semantics.specs.Rules.{isFalse, andRule, orRule, any}
 use Rattle.semantics.specs.Presence.{isHinweis, isGate, mixesWith, presenceWith, mixes, presence, oracleOf, answersFit}
 use Rattle.semantics.specs.Truth.{isJudged, Counts, truthWith, citedTruth, countsOn, truth}
 use Rattle.semantics.specs.Violations.{violated, violatedOf, violationsWith, violations}
-use Rattle.semantics.specs.Packages.{isPaket}
+use Rattle.semantics.specs.Packages.{isPaket, readRow, rowsOf, pakete}
 use Rattle.semantics.specs.Pairs as pairs
 use Rattle.semantics.specs.Kept.{Kept, truth-kept}
-use Rattle.semantics.specs.Answers.{numbered, evalAnswer, truthAnswer, violationsAnswer, evalAndTruthAnswer}
+use Rattle.semantics.specs.Answers.{numbered, rowed, paketeAnswer, evalAnswer, truthAnswer, violationsAnswer, evalAndTruthAnswer}
 
 -- The kinds, if Format begins at a given number.
 
@@ -122,10 +123,6 @@ unseen p h t = by (kind-moves t)
     by (inl is) = ap p is
     by (inr m) = ap p (m .1) ∙ h ∙ ap p (sym (m .2))
 
--- the same citations are Pakete, and a Paket's row depends on its text alone
-pub paket-stays : (t : List ℕ) → isPaket (kindFrom 900 t) ≡ isPaket (kindOf t)
-paket-stays = unseen isPaket refl
-
 -- the number found is 900
 abbrev is900 : Found → Bool
 is900 (Number n) = eqb n 900
@@ -164,6 +161,11 @@ module _ (first : ℕ) where
   abbrev pub presenceFrom : (oracle : ℕ → Result Truth) → ℕ → Expr → Result Truth
   presenceFrom = presenceWith (λ t. isHinweis (kindFrom first t)) (λ t. isGate (kindFrom first t))
 
+  -- the package rows of texts, numbered from n on
+  unfoldable pub rowsFrom : ℕ → List (List ℕ) → List (List ℕ)
+  rowsFrom n [] = []
+  rowsFrom n (t ∷ ts) = cond (isPaket (kindFrom first t)) (readRow n (paketOf t)) [] ++ rowsFrom (suc n) ts
+
   -- what each citation counts as on a value
   abbrev pub countsFrom : (value : List ℕ) → Counts
   countsFrom value n t = cond (isJudged (kindFrom first t)) (verdictTruth (verdict t value)) True
@@ -184,6 +186,20 @@ presence-now oracle n e = ap (λ kind. presenceWith (λ t. isHinweis (kind t)) (
 pub counts-now : (value : List ℕ) → countsFrom 901 value ≡ countsOn value
 unfolding citedTruth
 counts-now value = ap (λ kind n t. cond (isJudged (kind t)) (verdictTruth (verdict t value)) True) (fun-ext kind-now)
+
+-- the package rows are the same where the same texts are Pakete
+rows-same : (first : ℕ) → ((t : List ℕ) → isPaket (kindFrom first t) ≡ isPaket (kindOf t)) → (n : ℕ) (ts : List (List ℕ)) → rowsFrom first n ts ≡ rowsOf n ts
+unfolding rowsFrom rowsOf
+rows-same first h n [] = refl
+rows-same first h n (t ∷ ts) = rw (h t, rows-same first h (suc n) ts)
+
+-- from 901 on they are those that are used
+pub rows-now : (n : ℕ) (ts : List (List ℕ)) → rowsFrom 901 n ts ≡ rowsOf n ts
+rows-now = rows-same 901 (λ t. ap isPaket (kind-now t))
+
+-- they are as before
+pub rows-stay : (n : ℕ) (ts : List (List ℕ)) → rowsFrom 900 n ts ≡ rowsOf n ts
+rows-stay = rows-same 900 (unseen isPaket refl)
 
 -- choices mix as before
 pub mixes-stay : (es : Exprs) → mixesFrom 900 es ≡ mixes es
@@ -229,6 +245,7 @@ module _ (value : List ℕ) where
   pub truth-settles : (e : Expr) → Settled (truthFrom 900 value e) (truth value e)
   truth-settles e = settled (truthFrom 900 value e) (truth value e) (truths-settle 0 e)
 
+  -- what is False stays so, and nothing else becomes it
   false-stays : (v w : Truth) → settles v w ≡ true → isFalse v ≡ isFalse w
   false-stays v w h = by (settled v w h)
     where
@@ -253,12 +270,21 @@ module _ (value : List ℕ) where
   unfolding violationsWith
   violations-stay e = rw (false-stays (truthFrom 900 value e) (truth value e) (truths-settle 0 e), violated-stay 0 e)
 
+-- `[900]` itself was Unknown and is True
+pub nine-hundred : (truthFrom 900 [] (cite (ascii "900")) ≡ Unknown) × (truth [] (cite (ascii "900")) ≡ True)
+unfolding truthWith citedTruth kindFrom kindOfNumberFrom kindOf kindOfNumber numberUpTo verdict ruleOf
+nine-hundred = (refl, refl)
+
 -- The answers, with their refusals.
 
 module _ (first : ℕ) where
   -- `eval`
   unfoldable pub evalFrom : (tree answers : List ℕ) → Result Truth
   evalFrom tree answers = then (treeOf tree) (λ e. unless (answersFit e answers) WrongAnswers (presenceFrom first (oracleOf answers) 0 e))
+
+  -- `pakete`
+  unfoldable pub paketeFrom : (tree : List ℕ) → Outcome ℕ
+  paketeFrom tree = map-ok (λ e. rowed (rowsFrom first 0 (citations e))) (treeOf tree)
 
   -- `truth`
   unfoldable pub truthAnswerFrom : (tree value : List ℕ) → Result Truth
@@ -277,6 +303,7 @@ module _ (first : ℕ) where
 -- from 901 on they are the answers of the public functions
 pub record AreNow (tree : List ℕ) : Type 0 where
   pub eval : (answers : List ℕ) → evalFrom 901 tree answers ≡ evalAnswer tree answers
+  pub pakete : paketeFrom 901 tree ≡ paketeAnswer tree
   pub truth : (value : List ℕ) → truthAnswerFrom 901 tree value ≡ truthAnswer tree value
   pub violations : (value : List ℕ) → violationsAnswerFrom 901 tree value ≡ violationsAnswer tree value
   pub eval-and-truth : (answers value : List ℕ) → evalAndTruthFrom 901 tree answers value ≡ evalAndTruthAnswer tree answers value
@@ -293,6 +320,8 @@ SettledBoth before now = (now ≡ before) ⊎ ((p : Truth) × (before ≡ ok (p,
 pub record AsBefore (tree : List ℕ) : Type 0 where
   -- the presence answer or refusal
   pub eval : (answers : List ℕ) → evalFrom 900 tree answers ≡ evalAnswer tree answers
+  -- the package rows, their count, or the refusal
+  pub pakete : paketeFrom 900 tree ≡ paketeAnswer tree
   -- the violations, their count and order, or the refusal
   pub violations : (value : List ℕ) → violationsAnswerFrom 900 tree value ≡ violationsAnswer tree value
   -- the format truth or refusal
@@ -311,6 +340,10 @@ module _ (tree : List ℕ) where
   eval-stays : (answers : List ℕ) → evalFrom 900 tree answers ≡ evalAnswer tree answers
   unfolding evalFrom evalAnswer eval-by
   eval-stays answers = ap (eval-by answers) (fun-ext (presence-stays (oracleOf answers) 0))
+
+  pakete-by : (first : ℕ) → ((n : ℕ) (ts : List (List ℕ)) → rowsFrom first n ts ≡ rowsOf n ts) → paketeFrom first tree ≡ paketeAnswer tree
+  unfolding paketeFrom paketeAnswer pakete
+  pakete-by first h = ap (λ f. map-ok (λ e. rowed (f (citations e))) (treeOf tree)) (fun-ext (h 0))
 
   truth-now : (value : List ℕ) → truthAnswerFrom 901 tree value ≡ truthAnswer tree value
   unfolding truthAnswerFrom truthAnswer
@@ -336,7 +369,7 @@ module _ (tree : List ℕ) where
 
 -- for every byte string
 pub are-now : (tree : List ℕ) → AreNow tree
-are-now tree = record { eval = eval-now tree; truth = truth-now tree; violations = list-now tree; eval-and-truth = both-now tree }
+are-now tree = record { eval = eval-now tree; pakete = pakete-by tree 901 rows-now; truth = truth-now tree; violations = list-now tree; eval-and-truth = both-now tree }
 
 -- what holds of two answers, and of one and itself, holds of them after the same test
 unless-related : {A : Type 0} (R : Result A → Result A → Type 0) → ((r : Result A) → R r r) → (t : Bool) (why : Refusal) (before now : Result A) → R before now
@@ -390,4 +423,4 @@ module _ (tree : List ℕ) where
 
 -- for every byte string: presence and violations are as before, a format truth is as before, or was Unknown and is True
 pub as-before : (tree : List ℕ) → AsBefore tree
-as-before tree = record { eval = eval-stays tree; violations = list-stays tree; truth = truth-answer-settles tree; eval-and-truth = both-answer-settles tree }
+as-before tree = record { eval = eval-stays tree; pakete = pakete-by tree 900 rows-stay; violations = list-stays tree; truth = truth-answer-settles tree; eval-and-truth = both-answer-settles tree }
