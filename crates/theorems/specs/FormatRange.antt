@@ -322,7 +322,7 @@ pub record AsBefore (tree : List ℕ) : Type 0 where
   pub eval : (answers : List ℕ) → evalFrom 900 tree answers ≡ evalAnswer tree answers
   -- the package rows, their count, or the refusal
   pub pakete : paketeFrom 900 tree ≡ paketeAnswer tree
-  -- the violations, their count and order, or the refusal
+  -- the violations in their order, or the refusal
   pub violations : (value : List ℕ) → violationsAnswerFrom 900 tree value ≡ violationsAnswer tree value
   -- the format truth or refusal
   pub truth : (value : List ℕ) → SettledAnswer (truthAnswerFrom 900 tree value) (truthAnswer tree value)
