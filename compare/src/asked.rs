@@ -1,9 +1,10 @@
 //! Who is asked: the original, unless a rule takes the request out of the comparison by a test on its input; then the model.
 
-use crate::model::{self, kinds::number};
+use crate::model::reading::{Token, after_word, tokens};
+use crate::model::tree::Node;
+use crate::model::{self, is_900};
 use crate::oracle::{self, Answer, Origin};
 use crate::request::{self, BAD_REQUEST, Function};
-use crate::tree;
 
 /// Why requests are taken out, in the words of the summary.
 pub type Reason = &'static str;
@@ -28,44 +29,62 @@ pub struct Asked {
     pub model: Model,
 }
 
-/// The original has 900 among the Format numbers. Where it is cited, what kinds decide is the model's; reading, printing and
-/// package rows are not decided by it.
+/// What cites a number equal to 900 is the model's: the original has 900 among the Format numbers.
 const NINE_HUNDRED: [Rule; 3] = [
     Rule { reason: "the kind of a number equal to 900", covers: kind_of_900, still: Some(was_format) },
+    Rule { reason: "format truth where 900 is cited", covers: truth_with_900, still: Some(was_unknown) },
     Rule {
-        reason: "presence and violations where a number equal to 900 is cited",
-        covers: listed_with_900,
+        reason: "all else that cites 900",
+        covers: else_with_900,
         still: Some(|model, original| model == original),
-    },
-    Rule {
-        reason: "format truth where a number equal to 900 is cited",
-        covers: truth_with_900,
-        still: Some(was_unknown),
     },
 ];
 
 pub const ASKED: Asked = Asked { rules: &NINE_HUNDRED, model: model::answer };
 
 fn kind_of_900(function: Function, fields: &[&[u8]]) -> bool {
-    function == Function::Kind && str::from_utf8(fields[0]).is_ok_and(is_900)
-}
-
-fn listed_with_900(function: Function, fields: &[&[u8]]) -> bool {
-    matches!(function, Function::Eval | Function::Violations) && cites_900(fields[0])
+    function == Function::Kind && is_900(fields[0])
 }
 
 fn truth_with_900(function: Function, fields: &[&[u8]]) -> bool {
-    function == Function::Truth && cites_900(fields[0])
+    function == Function::Truth && tree_cites_900(fields[0])
 }
 
-fn is_900(text: &str) -> bool {
-    number(text) == Some(900)
+fn else_with_900(function: Function, fields: &[&[u8]]) -> bool {
+    match function {
+        Function::Expr => text_cites_900(fields[0], str::to_owned),
+        Function::Status => text_cites_900(fields[0], |text| after_word(text).1),
+        Function::Tree
+        | Function::Print
+        | Function::Cited
+        | Function::Eval
+        | Function::Pakete
+        | Function::Violations => tree_cites_900(fields[0]),
+        Function::Paket | Function::Name | Function::Evaluate | Function::Registered => is_900(fields[0]),
+        _ => false,
+    }
 }
 
-/// Whether a tree cites such a number; each ends in these three digits.
-fn cites_900(tree: &[u8]) -> bool {
-    tree.windows(3).any(|three| three == b"900")
-        && tree::decode(tree).is_some_and(|expr| expr.cited().into_iter().any(is_900))
+/// Every such number ends in these digits.
+fn may_cite_900(bytes: &[u8]) -> bool {
+    bytes.windows(3).any(|three| three == b"900")
+}
+
+/// Whether a text cites one in front of the first place that is refused.
+fn text_cites_900(text: &[u8], read: fn(&str) -> String) -> bool {
+    let cites = |text: &str| {
+        tokens(&read(text))
+            .0
+            .iter()
+            .any(|token| matches!(token, Token::Cited(cited) if is_900(cited.as_bytes())))
+    };
+    may_cite_900(text) && str::from_utf8(text).is_ok_and(cites)
+}
+
+fn tree_cites_900(tree: &[u8]) -> bool {
+    may_cite_900(tree)
+        && Node::of_bytes(tree)
+            .is_some_and(|node| node.texts().into_iter().any(|text| is_900(text.as_bytes())))
 }
 
 fn said(answer: &Answer, word: &str) -> bool {
@@ -140,6 +159,7 @@ pub mod made_up {
 #[cfg(test)]
 mod tests {
     use super::*;
+    use crate::model::reading::expression;
 
     fn said(asked: Asked, line: &str) -> (Result<Origin, Reason>, String) {
         let mut out = Vec::new();
@@ -156,21 +176,30 @@ mod tests {
 
     #[test]
     fn nine_hundred_is_taken_out() {
-        let asked = |line: &str| said(ASKED, line);
+        let [kind, truth, other] = NINE_HUNDRED.map(|rule| rule.reason);
         for spelt in ["393030", "30393030", "2b393030"] {
-            let (origin, answer) = asked(&format!("kind {spelt}"));
-            assert_eq!((origin, answer.as_str()), (Ok(Origin::Model(NINE_HUNDRED[0].reason)), "6"));
+            assert_eq!(said(ASKED, &format!("kind {spelt}")), (Ok(Origin::Model(kind)), "6".to_owned()));
         }
-        let tree =
-            tree::encode(&crate::original::conditions::Expr::parse("[0900] ∨ [902]").expect("an expression"));
-        let (truth, list) = (NINE_HUNDRED[2].reason, NINE_HUNDRED[1].reason);
+        let tree = expression("[0900] ∨ [902]").expect("an expression").bytes();
         let due = |reason, word: &str| Ok((Ok((word.to_owned(), Vec::new())), Origin::Model(reason)));
         assert_eq!(ASKED.ask(Function::Truth, &[&tree, b"-1"]), due(truth, "2"));
-        assert_eq!(ASKED.ask(Function::Violations, &[&tree, b"-1", b""]), due(list, "ok 0"));
-        assert_eq!(ASKED.ask(Function::Eval, &[&tree, &[3, 3]]), due(list, "3"));
-        let other =
-            tree::encode(&crate::original::conditions::Expr::parse("[1900] ∨ [902]").expect("an expression"));
-        assert_eq!(ASKED.ask(Function::Truth, &[&other, b"-1"]).map(|(_, origin)| origin), Ok(Origin::Rust));
+        assert_eq!(ASKED.ask(Function::Violations, &[&tree, b"-1", b""]), due(other, "ok 0"));
+        assert_eq!(ASKED.ask(Function::Eval, &[&tree, &[3, 3]]), due(other, "3"));
+        assert_eq!(ASKED.ask(Function::Cited, &[&tree]), due(other, "30393030,393032"));
+        assert_eq!(ASKED.ask(Function::Expr, &[b"[900] [", b""]), Ok((Err(2), Origin::Model(other))));
+        assert_eq!(ASKED.ask(Function::Status, &[b"M [900]", b""]), Ok((Err(14), Origin::Model(other))));
+    }
+
+    #[test]
+    fn others_are_not() {
+        let tree = expression("[1900] ∨ [900 ]").expect("an expression").bytes();
+        for (function, fields) in [
+            (Function::Truth, [&tree[..], b"-1"]),
+            (Function::Expr, [b"[1900] ([900 ]", b""]),
+            (Function::Status, [b"900 [9001]", b""]),
+        ] {
+            assert_eq!(ASKED.ask(function, &fields).map(|(_, origin)| origin), Ok(Origin::Rust));
+        }
     }
 
     #[test]

@@ -1,9 +1,10 @@
-//! Presence, format truth and violations of a tree (docs/SEMANTICS.md). What a condition says of a value by itself is asked of the
-//! original: only its kind is the model's.
+//! Presence, package rows, format truth and violations of a tree (docs/SEMANTICS.md). What a condition says of a value by
+//! itself, and the bounds that a Paket's text has, are asked of the original: only kinds are the model's.
 
 use super::kinds::{Kind, kind};
+use super::tree::{Node, Sign};
 use crate::oracle::refusal::{CHOICE_OVER_NEUTRAL, FAILED_ANSWER};
-use crate::original::conditions::Expr;
+use crate::original::conditions::Paket;
 use crate::original::formatbedingung::{self, FormatVerdict};
 
 #[derive(Debug, Clone, Copy, PartialEq, Eq)]
@@ -16,142 +17,101 @@ pub enum Truth {
 
 use Truth::*;
 
-#[derive(Debug, Clone, Copy, PartialEq, Eq)]
-enum Sign {
-    And,
-    Or,
-    Xor,
-}
-
-/// A citation with its number, or operands joined by a sign; operands side by side are joined as by ∧.
-#[derive(Debug)]
-enum Node {
-    Cited(usize),
-    Joined(Sign, Vec<Node>),
-}
-
-/// A tree's root, and the texts by citation number.
-pub struct Tree {
-    root: Node,
-    texts: Vec<String>,
-}
-
-impl Tree {
-    pub fn of(expr: &Expr) -> Self {
-        let mut texts = Vec::new();
-        let root = node(expr, &mut texts);
-        Self { root, texts }
-    }
-
-    pub fn texts(&self) -> &[String] {
-        &self.texts
-    }
-
-    /// The presence by one answer byte for each citation, or 7 or 8.
-    pub fn presence(&self, answers: &[u8]) -> Result<Truth, u8> {
-        self.presence_of(&self.root, answers)
-    }
-
-    fn presence_of(&self, node: &Node, answers: &[u8]) -> Result<Truth, u8> {
-        match node {
-            Node::Cited(number) => match answers[*number] {
-                0 => Ok(False),
-                1 => Ok(Unknown),
-                2 => Ok(True),
-                3 => Ok(Neutral),
-                _ => Err(FAILED_ANSWER),
-            },
-            Node::Joined(Sign::And, operands) => Ok(every(&self.presences(operands.iter(), answers)?)),
-            Node::Joined(sign, operands) => {
-                let kept: Vec<&Node> = operands.iter().filter(|one| !self.cites_only_hints(one)).collect();
-                let gating = kept.iter().filter(|one| self.gates(one)).count();
-                if gating > 0 && gating < kept.len() {
-                    return Err(CHOICE_OVER_NEUTRAL);
-                }
-                let truths = self.presences(kept.into_iter(), answers)?;
-                Ok(if *sign == Sign::Xor { exactly_one(&truths) } else { some(&truths) })
-            }
-        }
-    }
-
-    /// From left to right, the first refusal if there is one.
-    fn presences<'a>(
-        &self,
-        operands: impl Iterator<Item = &'a Node>,
-        answers: &[u8],
-    ) -> Result<Vec<Truth>, u8> {
-        let mut truths = Vec::new();
-        for operand in operands {
-            truths.push(self.presence_of(operand, answers)?);
-        }
-        Ok(truths)
-    }
-
-    fn kinds(&self, node: &Node) -> Vec<Kind> {
-        match node {
-            Node::Cited(number) => vec![kind(&self.texts[*number])],
-            Node::Joined(_, operands) => operands.iter().flat_map(|one| self.kinds(one)).collect(),
-        }
-    }
-
-    fn cites_only_hints(&self, node: &Node) -> bool {
-        self.kinds(node).iter().all(|kind| *kind == Kind::Hinweis)
-    }
-
-    fn gates(&self, node: &Node) -> bool {
-        self.kinds(node).iter().any(|kind| matches!(kind, Kind::Voraussetzung | Kind::Paket))
-    }
-
-    /// What a citation counts as on a value.
-    fn counts(&self, number: usize, value: &str) -> Truth {
-        let text = &self.texts[number];
-        if !matches!(kind(text), Kind::Format | Kind::Zeitpunkt) {
-            return True;
-        }
-        match formatbedingung::evaluate(text, value) {
-            FormatVerdict::Holds => True,
-            FormatVerdict::Violated(_) => False,
-            FormatVerdict::Unregistered => Unknown,
-        }
-    }
-
-    pub fn format_truth(&self, value: &str) -> Truth {
-        self.format_truth_of(&self.root, value)
-    }
-
-    fn format_truth_of(&self, node: &Node, value: &str) -> Truth {
-        match node {
-            Node::Cited(number) => self.counts(*number, value),
-            Node::Joined(sign, operands) => {
-                let truths: Vec<Truth> =
-                    operands.iter().map(|one| self.format_truth_of(one, value)).collect();
-                if *sign == Sign::And { every(&truths) } else { some(&truths) }
-            }
-        }
-    }
-
-    /// The numbers of the violated citations, if the format truth is False.
-    pub fn violations(&self, value: &str) -> Vec<usize> {
-        if self.format_truth(value) != False {
-            return Vec::new();
-        }
-        (0..self.texts.len()).filter(|number| self.counts(*number, value) == False).collect()
-    }
-}
-
-fn node(expr: &Expr, texts: &mut Vec<String>) -> Node {
-    let mut joined = |sign, operands: &Vec<Expr>| {
-        Node::Joined(sign, operands.iter().map(|one| node(one, texts)).collect())
+/// The presence by one answer byte for each citation in turn, or 7 or 8.
+pub fn presence(node: &Node, answers: &[u8]) -> Result<Truth, u8> {
+    let Node::Joined(sign, operands) = node else {
+        return match answers[0] {
+            0 => Ok(False),
+            1 => Ok(Unknown),
+            2 => Ok(True),
+            3 => Ok(Neutral),
+            _ => Err(FAILED_ANSWER),
+        };
     };
-    match expr {
-        Expr::Cond(text) => {
-            texts.push(text.clone());
-            Node::Cited(texts.len() - 1)
+    let choosing = matches!(sign, Sign::Or | Sign::Xor);
+    let mut kept = Vec::new();
+    let mut rest = answers;
+    for operand in operands {
+        let (own, later) = rest.split_at(operand.texts().len());
+        rest = later;
+        if !(choosing && cites_only_hints(operand)) {
+            kept.push((operand, own));
         }
-        Expr::Then(operands) | Expr::And(operands) => joined(Sign::And, operands),
-        Expr::Or(operands) => joined(Sign::Or, operands),
-        Expr::Xor(operands) => joined(Sign::Xor, operands),
     }
+    let gating = kept.iter().filter(|(operand, _)| gates(operand)).count();
+    if choosing && gating > 0 && gating < kept.len() {
+        return Err(CHOICE_OVER_NEUTRAL);
+    }
+    let mut truths = Vec::new();
+    for (operand, own) in kept {
+        truths.push(presence(operand, own)?);
+    }
+    Ok(match sign {
+        Sign::Then | Sign::And => every(&truths),
+        Sign::Or => some(&truths),
+        Sign::Xor => exactly_one(&truths),
+    })
+}
+
+fn cites_only_hints(node: &Node) -> bool {
+    node.texts().into_iter().all(|text| kind(text) == Kind::Hinweis)
+}
+
+fn gates(node: &Node) -> bool {
+    node.texts().into_iter().any(|text| matches!(kind(text), Kind::Voraussetzung | Kind::Paket))
+}
+
+/// What a citation counts as on a value.
+fn counts(text: &str, value: &str) -> Truth {
+    if !matches!(kind(text), Kind::Format | Kind::Zeitpunkt) {
+        return True;
+    }
+    match formatbedingung::evaluate(text, value) {
+        FormatVerdict::Holds => True,
+        FormatVerdict::Violated(_) => False,
+        FormatVerdict::Unregistered => Unknown,
+    }
+}
+
+pub fn format_truth(node: &Node, value: &str) -> Truth {
+    match node {
+        Node::Cited(text) => counts(text, value),
+        Node::Joined(sign, operands) => {
+            let truths: Vec<Truth> = operands.iter().map(|operand| format_truth(operand, value)).collect();
+            match sign {
+                Sign::Then | Sign::And => every(&truths),
+                Sign::Or | Sign::Xor => some(&truths),
+            }
+        }
+    }
+}
+
+/// The numbers of the violated citations, if the format truth is False.
+pub fn violations(node: &Node, value: &str) -> Vec<usize> {
+    if format_truth(node, value) != False {
+        return Vec::new();
+    }
+    let texts = node.texts();
+    (0..texts.len()).filter(|number| counts(texts[*number], value) == False).collect()
+}
+
+/// The rows of the Paket citations that can be read.
+pub fn pakete(node: &Node) -> Vec<Vec<u8>> {
+    let mut rows = Vec::new();
+    for (number, text) in node.texts().into_iter().enumerate() {
+        if kind(text) != Kind::Paket {
+            continue;
+        }
+        let Some(paket) = Paket::parse(text) else {
+            continue;
+        };
+        let mut row = (number as u16).to_le_bytes().to_vec();
+        row.extend((paket.min as u64).to_le_bytes());
+        row.push(u8::from(paket.max.is_some()));
+        row.extend((paket.max.unwrap_or(0) as u64).to_le_bytes());
+        rows.push(row);
+    }
+    rows
 }
 
 fn every(truths: &[Truth]) -> Truth {
@@ -193,30 +153,35 @@ fn exactly_one(truths: &[Truth]) -> Truth {
 #[cfg(test)]
 mod tests {
     use super::*;
+    use crate::model::reading::expression;
 
-    fn tree(text: &str) -> Tree {
-        Tree::of(&Expr::parse(text).expect("an expression"))
+    fn tree(text: &str) -> Node {
+        expression(text).expect("an expression")
     }
 
     #[test]
     fn rules() {
-        assert_eq!(tree("[1] ⊻ [2] ⊻ [3]").presence(&[2, 2, 1]), Ok(False));
-        assert_eq!(tree("[1] ⊻ [2] ⊻ [3]").presence(&[2, 3, 0]), Ok(True));
-        assert_eq!(tree("[500] ∨ [1]").presence(&[4, 2]), Ok(True));
-        assert_eq!(tree("[500] ∨ [501]").presence(&[4, 4]), Ok(Neutral));
-        assert_eq!(tree("[1] ∨ [931]").presence(&[4, 4]), Err(CHOICE_OVER_NEUTRAL));
-        assert_eq!(tree("[1] [2]").presence(&[0, 4]), Err(FAILED_ANSWER));
-        assert_eq!(tree("[931] ∧ [932]").presence(&[3, 3]), Ok(Neutral));
-        assert_eq!(tree("[1] ∧ [931]").presence(&[2, 3]), Ok(True));
+        assert_eq!(presence(&tree("[1] ⊻ [2] ⊻ [3]"), &[2, 2, 1]), Ok(False));
+        assert_eq!(presence(&tree("[1] ⊻ [2] ⊻ [3]"), &[2, 3, 0]), Ok(True));
+        assert_eq!(presence(&tree("[500] ∨ [1]"), &[4, 2]), Ok(True));
+        assert_eq!(presence(&tree("[500] ∨ [501]"), &[4, 4]), Ok(Neutral));
+        assert_eq!(presence(&tree("[1] ∨ [931]"), &[4, 4]), Err(CHOICE_OVER_NEUTRAL));
+        assert_eq!(presence(&tree("[1] [2]"), &[0, 4]), Err(FAILED_ANSWER));
+        assert_eq!(presence(&tree("[931] ∧ [932]"), &[3, 3]), Ok(Neutral));
+        assert_eq!(presence(&tree("[1] ∧ [931]"), &[2, 3]), Ok(True));
+        assert_eq!(
+            pakete(&tree("[1] [XP1..2] [7P]")),
+            [[2, 0].into_iter().chain([0; 17]).collect::<Vec<u8>>()]
+        );
     }
 
     #[test]
     fn nine_hundred_neither_gates_nor_is_judged() {
-        assert_eq!(tree("[1] ∨ [900]").presence(&[2, 3]), Err(CHOICE_OVER_NEUTRAL));
-        assert_eq!(tree("[900]").format_truth("0"), True);
-        assert_eq!(tree("[900] ∨ [902]").format_truth("-1"), True);
-        assert_eq!(tree("[900] ∧ [951]").format_truth("0"), Unknown);
-        assert_eq!(tree("[900] ∧ [902]").violations("-1"), [1]);
-        assert_eq!(tree("([902] ∨ [903]) [1] ∧ [914]").violations("0"), [1, 3]);
+        assert_eq!(presence(&tree("[1] ∨ [900]"), &[2, 3]), Err(CHOICE_OVER_NEUTRAL));
+        assert_eq!(format_truth(&tree("[900]"), "0"), True);
+        assert_eq!(format_truth(&tree("[900] ∨ [902]"), "-1"), True);
+        assert_eq!(format_truth(&tree("[900] ∧ [951]"), "0"), Unknown);
+        assert_eq!(violations(&tree("[900] ∧ [902]"), "-1"), [1]);
+        assert_eq!(violations(&tree("([902] ∨ [903]) [1] ∧ [914]"), "0"), [1, 3]);
     }
 }
