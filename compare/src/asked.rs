@@ -91,9 +91,9 @@ fn said(answer: &Answer, word: &str) -> bool {
     answer.as_ref().is_ok_and(|(words, _)| words == word)
 }
 
-/// Other, and Format for the original.
+/// Other, and Format for the original; or the same refusal.
 fn was_format(model: &Answer, original: &Answer) -> bool {
-    model == original || said(model, "6") && said(original, "2")
+    said(model, "6") && said(original, "2") || model.is_err() && model == original
 }
 
 /// As the original's, or True where that is Unknown.

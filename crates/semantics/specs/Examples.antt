@@ -3,6 +3,8 @@ use mathlib.Core.Path.{_≡_, refl}
 use mathlib.Core.List.{List, [], _∷_, _++_}
 use Prim.Native.Nat.{ℕ}
 use Prim.Native.String.{String}
+use mathlib.Core.Bool.{not}
+use lib.Dec.{eqb}
 use lib.ListN.{replicate}
 use Rattle.refusal.specs.Result.{Result, ok, refuse, then, map-ok}
 use Rattle.refusal.specs.declared.Refusal.the-variants.{ChoiceOverNeutral, FailedAnswer, TooLong, NotUtf8, NoRoom, NotATree, WrongAnswers}
@@ -13,6 +15,7 @@ use Rattle.utf8.specs.Limits.{admitted}
 use Rattle.citation.specs.Kinds.{kindOf, kindOfNumber}
 use Rattle.citation.specs.Pakete.{paketOf, rangeOf}
 use Rattle.citation.specs.declared.Truth.{Truth}
+use Rattle.citation.specs.Truths.{truthOf}
 use Rattle.citation.specs.declared.Truth.the-variants.{False, Unknown, True, Neutral}
 use Rattle.decimal.specs.Decimal.{integerOf, fractionOf, against}
 use Rattle.formats.specs.Rules.{judged}
@@ -25,7 +28,7 @@ use Rattle.grammar.specs.Bytes.{twoBytes, rowBytes, citeBytes, headBytes, packe
 use Rattle.grammar.specs.Quoted.{bytes}
 use Rattle.semantics.specs.Rules.{any, every, andRule, orRule, twoTrue, xorRule}
 use Rattle.semantics.specs.Presence.{someGateWith, someFreeWith, before, presenceWith, answered, answersFit}
-use Rattle.semantics.specs.Truth.{citedTruth, truthWith, truth}
+use Rattle.semantics.specs.Truth.{Counts, citedTruth, truthWith, truth}
 use Rattle.semantics.specs.Violations.{violated, violationsWith, violations, numberBytes}
 use Rattle.semantics.specs.Packages.{bytesUpTo, paketBytes, rowsOf, pakete}
 use Rattle.grammar.specs.Outcome.{answerOf, writtenOf}
@@ -123,6 +126,16 @@ judgementsWanted (x ∷ xs) = (x .2, x .3) ∷ judgementsWanted xs
 judgements-hold : judgementsSaid judgements ≡ judgementsWanted judgements
 unfolding truthWith citedTruth violationsWith violated andRule orRule any citations kindOf kindOfNumber numberUpTo verdict ruleOf judged against integerOf fractionOf encodeChar
 judgements-hold = refl
+
+-- a truth for each citation by its number alone: only the number 2 counts as False
+abbrev secondFalse : Counts
+secondFalse n t = truthOf (not (eqb n 2))
+
+-- the numbers go on from operand to operand, also where the texts are equal
+numbers-go-on : (truthWith secondFalse 0 (and2 "1" "1") ≡ True) × (truthWith secondFalse 0 (join And (and2 "1" "1" ◂ c "1" ◂ none)) ≡ False)
+    × (truthWith secondFalse 1 (and2 "1" "1") ≡ False) × (violationsWith secondFalse (Then (or2 "1" "1" ◂ c "1" ◂ none)) ≡ 2 ∷ [])
+unfolding truthWith violationsWith violated andRule orRule any citations
+numbers-go-on = (refl, refl, refl, refl)
 
 -- the violations into a buffer: their count, two bytes each, and the old rest; 14 and the old bytes where it is too short
 sample-written : (answerOf (violationsAnswer (bytesOf sample) (bytes "0")) 5 ≡ ok 2)

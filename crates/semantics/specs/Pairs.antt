@@ -16,13 +16,6 @@ use Rattle.semantics.specs.Truth.{formatRule}
 abbrev pub pair : Op → Truth → Truth → Truth
 pair o v w = formatRule o (v ∷ w ∷ [])
 
--- nothing joined is Neutral
-pub rule-none : (o : Op) → formatRule o [] ≡ Neutral
-unfolding andRule orRule any
-rule-none And = refl
-rule-none Or = refl
-rule-none Xor = refl
-
 and-more : (v : Truth) (vs : List Truth) → andRule (v ∷ vs) ≡ pair And v (andRule vs)
 unfolding andRule any
 and-more v vs = by (any isFalse vs) (any isUnknown vs) (any isTrue vs)
@@ -52,6 +45,13 @@ pub rule-more : (o : Op) (v : Truth) (vs : List Truth) → formatRule o (v ∷ v
 rule-more And = and-more
 rule-more Or = or-more
 rule-more Xor = or-more
+
+-- nothing joined is Neutral
+pub rule-none : (o : Op) → formatRule o [] ≡ Neutral
+unfolding andRule orRule any
+rule-none And = refl
+rule-none Or = refl
+rule-none Xor = refl
 
 -- the test holds of each truth
 abbrev pub each : (Truth → Bool) → Bool

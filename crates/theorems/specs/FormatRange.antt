@@ -178,11 +178,16 @@ module _ (first : ℕ) where
   abbrev pub violationsFrom : (value : List ℕ) → Expr → List ℕ
   violationsFrom value = violationsWith (countsFrom value)
 
--- from 901 on, presence is the one that is used
-pub presence-now : (oracle : ℕ → Result Truth) (n : ℕ) (e : Expr) → presenceFrom 901 oracle n e ≡ presence oracle n e
-presence-now oracle n e = ap (λ kind. presenceWith (λ t. isHinweis (kind t)) (λ t. isGate (kind t)) oracle n e) (fun-ext kind-now)
+-- presence is the same where the same texts are Hinweise and the same gate
+presence-same : (first : ℕ) → ((t : List ℕ) → isHinweis (kindFrom first t) ≡ isHinweis (kindOf t)) → ((t : List ℕ) → isGate (kindFrom first t) ≡ isGate (kindOf t))
+    → (oracle : ℕ → Result Truth) (n : ℕ) (e : Expr) → presenceFrom first oracle n e ≡ presence oracle n e
+presence-same first h g oracle n e = ap₂ (λ hint gate. presenceWith hint gate oracle n e) (fun-ext h) (fun-ext g)
 
--- so are what citations count as, and with it format truth and the violations
+-- from 901 on, it is the one that is used
+pub presence-now : (oracle : ℕ → Result Truth) (n : ℕ) (e : Expr) → presenceFrom 901 oracle n e ≡ presence oracle n e
+presence-now = presence-same 901 (λ t. ap isHinweis (kind-now t)) (λ t. ap isGate (kind-now t))
+
+-- so is what citations count as, and with it format truth
 pub counts-now : (value : List ℕ) → countsFrom 901 value ≡ countsOn value
 unfolding citedTruth
 counts-now value = ap (λ kind n t. cond (isJudged (kind t)) (verdictTruth (verdict t value)) True) (fun-ext kind-now)
@@ -207,7 +212,7 @@ mixes-stay es = ap₂ (λ h g. mixesWith h g es) (fun-ext (unseen isHinweis refl
 
 -- presence is as before, answer or refusal, whatever the oracle
 pub presence-stays : (oracle : ℕ → Result Truth) (n : ℕ) (e : Expr) → presenceFrom 900 oracle n e ≡ presence oracle n e
-presence-stays oracle n e = ap₂ (λ h g. presenceWith h g oracle n e) (fun-ext (unseen isHinweis refl)) (fun-ext (unseen isGate refl))
+presence-stays = presence-same 900 (unseen isHinweis refl) (unseen isGate refl)
 
 -- the second is the first, or True where the first is Unknown
 abbrev pub settles : Truth → Truth → Bool
@@ -265,7 +270,11 @@ module _ (value : List ℕ) where
     violated-stay-of n none = refl
     violated-stay-of n (more e es) = rw (violated-stay n e, violated-stay-of (n + count e) es)
 
-  -- the violations are as before
+  -- from 901 on, the violations are those that are used
+  pub violations-now : (e : Expr) → violationsFrom 901 value e ≡ violations value e
+  violations-now e = ap (λ c. violationsWith c e) (counts-now value)
+
+  -- they are as before
   pub violations-stay : (e : Expr) → violationsFrom 900 value e ≡ violations value e
   unfolding violationsWith
   violations-stay e = rw (false-stays (truthFrom 900 value e) (truth value e) (truths-settle 0 e), violated-stay 0 e)
@@ -330,46 +339,39 @@ pub record AsBefore (tree : List ℕ) : Type 0 where
   pub eval-and-truth : (answers value : List ℕ) → SettledBoth (evalAndTruthFrom 900 tree answers value) (evalAndTruthAnswer tree answers value)
 
 module _ (tree : List ℕ) where
-  eval-by : (answers : List ℕ) → (Expr → Result Truth) → Result Truth
-  eval-by answers f = then (treeOf tree) (λ e. unless (answersFit e answers) WrongAnswers (f e))
+  eval-same : (first : ℕ) → ((oracle : ℕ → Result Truth) (n : ℕ) (e : Expr) → presenceFrom first oracle n e ≡ presence oracle n e)
+      → (answers : List ℕ) → evalFrom first tree answers ≡ evalAnswer tree answers
+  unfolding evalFrom evalAnswer
+  eval-same first h answers = ap (λ f. then (treeOf tree) (λ e. unless (answersFit e answers) WrongAnswers (f e))) (fun-ext (h (oracleOf answers) 0))
 
-  eval-now : (answers : List ℕ) → evalFrom 901 tree answers ≡ evalAnswer tree answers
-  unfolding evalFrom evalAnswer eval-by
-  eval-now answers = ap (eval-by answers) (fun-ext (presence-now (oracleOf answers) 0))
-
-  eval-stays : (answers : List ℕ) → evalFrom 900 tree answers ≡ evalAnswer tree answers
-  unfolding evalFrom evalAnswer eval-by
-  eval-stays answers = ap (eval-by answers) (fun-ext (presence-stays (oracleOf answers) 0))
-
-  pakete-by : (first : ℕ) → ((n : ℕ) (ts : List (List ℕ)) → rowsFrom first n ts ≡ rowsOf n ts) → paketeFrom first tree ≡ paketeAnswer tree
+  pakete-same : (first : ℕ) → ((n : ℕ) (ts : List (List ℕ)) → rowsFrom first n ts ≡ rowsOf n ts) → paketeFrom first tree ≡ paketeAnswer tree
   unfolding paketeFrom paketeAnswer pakete
-  pakete-by first h = ap (λ f. map-ok (λ e. rowed (f (citations e))) (treeOf tree)) (fun-ext (h 0))
+  pakete-same first h = ap (λ f. map-ok (λ e. rowed (f (citations e))) (treeOf tree)) (fun-ext (h 0))
 
   truth-now : (value : List ℕ) → truthAnswerFrom 901 tree value ≡ truthAnswer tree value
   unfolding truthAnswerFrom truthAnswer
   truth-now value = ap (λ c. then (treeOf tree) (λ e. admitted valueLimit value (ok (truthWith c 0 e)))) (counts-now value)
 
-  list-by : (value : List ℕ) → (Expr → List ℕ) → Outcome ℕ
-  list-by value f = then (treeOf tree) (λ e. admitted valueLimit value (ok (numbered (f e))))
-
-  list-now : (value : List ℕ) → violationsAnswerFrom 901 tree value ≡ violationsAnswer tree value
-  unfolding violationsAnswerFrom violationsAnswer list-by
-  list-now value = ap (λ c. list-by value (violationsWith c)) (counts-now value)
-
-  list-stays : (value : List ℕ) → violationsAnswerFrom 900 tree value ≡ violationsAnswer tree value
-  unfolding violationsAnswerFrom violationsAnswer list-by
-  list-stays value = ap (list-by value) (fun-ext (violations-stay value))
-
-  both-by : (answers value : List ℕ) → (Expr → Result Truth) → (Expr → Truth) → Result (Truth × Truth)
-  both-by answers value f g = then (treeOf tree) (λ e. unless (answersFit e answers) WrongAnswers (admitted valueLimit value (map-ok (λ p. (p, g e)) (f e))))
+  list-same : (first : ℕ) → ((value : List ℕ) (e : Expr) → violationsFrom first value e ≡ violations value e)
+      → (value : List ℕ) → violationsAnswerFrom first tree value ≡ violationsAnswer tree value
+  unfolding violationsAnswerFrom violationsAnswer
+  list-same first h value = ap (λ f. then (treeOf tree) (λ e. admitted valueLimit value (ok (numbered (f e))))) (fun-ext (h value))
 
   both-now : (answers value : List ℕ) → evalAndTruthFrom 901 tree answers value ≡ evalAndTruthAnswer tree answers value
-  unfolding evalAndTruthFrom evalAndTruthAnswer both-by
-  both-now answers value = ap₂ (λ f c. both-by answers value f (truthWith c 0)) (fun-ext (presence-now (oracleOf answers) 0)) (counts-now value)
+  unfolding evalAndTruthFrom evalAndTruthAnswer
+  both-now answers value =
+      ap₂ (λ f c. then (treeOf tree) (λ e. unless (answersFit e answers) WrongAnswers (admitted valueLimit value (map-ok (λ p. (p, truthWith c 0 e)) (f e)))))
+      (fun-ext (presence-now (oracleOf answers) 0)) (counts-now value)
 
 -- for every byte string
 pub are-now : (tree : List ℕ) → AreNow tree
-are-now tree = record { eval = eval-now tree; pakete = pakete-by tree 901 rows-now; truth = truth-now tree; violations = list-now tree; eval-and-truth = both-now tree }
+are-now tree = record {
+  eval = eval-same tree 901 presence-now;
+  pakete = pakete-same tree 901 rows-now;
+  truth = truth-now tree;
+  violations = list-same tree 901 violations-now;
+  eval-and-truth = both-now tree;
+}
 
 -- what holds of two answers, and of one and itself, holds of them after the same test
 unless-related : {A : Type 0} (R : Result A → Result A → Type 0) → ((r : Result A) → R r r) → (t : Bool) (why : Refusal) (before now : Result A) → R before now
@@ -423,4 +425,10 @@ module _ (tree : List ℕ) where
 
 -- for every byte string: presence and violations are as before, a format truth is as before, or was Unknown and is True
 pub as-before : (tree : List ℕ) → AsBefore tree
-as-before tree = record { eval = eval-stays tree; pakete = pakete-by tree 900 rows-stay; violations = list-stays tree; truth = truth-answer-settles tree; eval-and-truth = both-answer-settles tree }
+as-before tree = record {
+  eval = eval-same tree 900 presence-stays;
+  pakete = pakete-same tree 900 rows-stay;
+  violations = list-same tree 900 violations-stay;
+  truth = truth-answer-settles tree;
+  eval-and-truth = both-answer-settles tree;
+}
