@@ -1,12 +1,12 @@
 // The proleptic Gregorian calendar: dates and times that exist, last Sundays, and the summer time of German legal time.
 ghost use mathlib.Core.Path.{_≡_};
-ghost use Prim.Native.Nat.{_≤_};
+ghost use Prim.Native.Nat.{_%_, _≤_, _<_};
 ghost use Rattle.calendar.specs.Calendar.{isLeap, monthDays, beforeYear, beforeMonth, isDate, isTime, lastSunday, momentOf, isMesz};
 
 // Years are counted from 1200 years before the year 0.
 pub const ERA_START: u16 = 1200;
 
-const COMMON: [u32; 13] = [0, 31, 28, 31, 30, 31, 30, 31, 31, 30, 31, 30, 31];
+const COMMON: [u8; 13] = [0, 31, 28, 31, 30, 31, 30, 31, 31, 30, 31, 30, 31];
 
 fn is_leap(year: u16) -> bool
     ensures { λ r. ⌜ r ≡ isLeap year ⌝ }
@@ -20,7 +20,7 @@ fn is_leap(year: u16) -> bool
     year % 400 == 0
 }
 
-fn month_days(year: u16, month: u8) -> u32
+fn month_days(year: u16, month: u8) -> u8
     ensures { λ r. ⌜ r ≡ monthDays year month ⌝ }
 {
     if month == 2 {
@@ -41,7 +41,7 @@ pub fn is_date(year: u16, month: u8, day: u8) -> bool
     if day < 1 {
         return false;
     }
-    day as u32 <= month_days(year, month)
+    day <= month_days(year, month)
 }
 
 pub fn is_time(hour: u8, minute: u8) -> bool
@@ -53,30 +53,40 @@ pub fn is_time(hour: u8, minute: u8) -> bool
     minute <= 59
 }
 
-fn before_year(year: u16) -> u32
-    ensures { λ r. ⌜ r ≡ beforeYear year ⌝ }
+// The days before a year, without whole weeks: a year of 365 days leaves one.
+fn before_year(year: u16) -> u16
+    requires { ⌜ year < 400 ⌝ }
+    ensures { λ r. ⌜ r ≡ beforeYear year % 7 ⌝ }
 {
-    let y = year as u32;
-    y * 365 + (y + 3) / 4 + (y + 399) / 400 - (y + 99) / 100
+    (year + (year + 3) / 4 + (year + 399) / 400 - (year + 99) / 100) % 7
 }
 
-fn before_month(year: u16, month: u8) -> u32
-    ensures { λ r. ⌜ r ≡ beforeMonth year month ⌝ }
+// The days of a year before one of its months, without whole weeks.
+fn before_month(year: u16, month: u8) -> u16
+    ensures { λ r. ⌜ r ≡ beforeMonth year month % 7 ⌝ }
 {
-    let mut n: u32 = 0;
+    let mut n: u16 = 0;
     let mut k: u8 = 0;
     while k < month {
-        n += month_days(year, k);
+        n = (n + month_days(year, k) as u16) % 7;
         k += 1;
     }
     n
 }
 
-// The last Sunday of a month of 31 days.
-pub fn last_sunday(year: u16, month: u8) -> u32
+// The last Sunday of a month of 31 days, in a year of one period.
+fn last_sunday_in_period(year: u16, month: u8) -> u16
+    requires { ⌜ year < 400 ⌝ }
     ensures { λ r. ⌜ r ≡ lastSunday year month ⌝ }
 {
     31 - (before_year(year) + before_month(year, month) + 30 + 6) % 7
+}
+
+// The last Sunday of a month of 31 days. Weekdays recur after 400 years.
+pub fn last_sunday(year: u16, month: u8) -> u32
+    ensures { λ r. ⌜ r ≡ lastSunday year month ⌝ }
+{
+    last_sunday_in_period(year % 400, month) as u32
 }
 
 // MMDDhhmm as a number.

@@ -1,15 +1,14 @@
 use borrow.Author.Needs.{needs}
-use Prim.Native.Nat.{_-_, _≤_}
+use Prim.Native.Nat.{ℕ, _+_, _-_, _%_, _≤_}
 use mathlib.Core.Path.{_≡_, refl, ap, _∙_}
 use native.Mathlib.Omega.{arith}
 use native.Mathlib.Numerals.{add-one}
-use Rattle.calendar.specs.Calendar.{beforeMonth}
-use Rattle.calendar.proofs.Laws.{before-small, month-small}
+use Rattle.calendar.specs.Calendar.{monthDays, beforeMonth}
 use Rattle.calendar.proofs.before_month.Statement.{statement}
 use Rattle.calendar.proofs.before_month.Tie as tie
 
 abbrev Inv-loop : tie.InvT-loop
-Inv-loop year month n₀ k₀ n k = (n ≡ beforeMonth year k) × (k ≤ month)
+Inv-loop year month n₀ k₀ n k = (n ≡ beforeMonth year k % 7) × (k ≤ month)
 
 abbrev μ-loop : tie.MeasureT-loop
 μ-loop year month n₀ k₀ n k = month - k
@@ -20,11 +19,11 @@ loop-holds c = (refl, search needs)
 month-days-requires : tie.Need-month-days-requires Inv-loop μ-loop
 month-days-requires c κs = search needs
 
+cast-n : tie.Need-cast-n Inv-loop μ-loop
+cast-n c = search needs
+
 add-n : tie.Need-add-n Inv-loop μ-loop
-add-n c =
-    let a = c .before .before .before .args in
-    let l = c .before .before .loop in
-    omega (arith, before-small (a .year) (l .k), month-small (a .year) (l .k), c .month-days .ensures)
+add-n c = search needs
 
 add-k : tie.Need-add-k Inv-loop μ-loop
 add-k c = search needs
@@ -36,12 +35,15 @@ loop-again : tie.Need-loop-again Inv-loop μ-loop
 loop-again c =
     let a = c .before .before .before .args in
     let l = c .before .before .loop in
-    (rw (l .inv .0, c .month-days .ensures, add-one (l .k)), omega arith)
+    (rw (l .inv .0, c .month-days .ensures, add-one (l .k)) (weeks (beforeMonth (a .year) (l .k)) (monthDays (a .year) (l .k))), omega arith)
+  where
+    weeks : (n d : ℕ) → (n % 7 + d) % 7 ≡ (n + d) % 7
+    weeks n d = omega arith
 
 returns : tie.Need-returns Inv-loop μ-loop
 returns c =
     let e : c .before .loop .k ≡ c .before .before .args .month = omega arith in
-    c .before .loop .inv .0 ∙ ap (beforeMonth (c .before .before .args .year)) e
+    c .before .loop .inv .0 ∙ ap (λ (k : ℕ). beforeMonth (c .before .before .args .year) k % 7) e
 
 pub before-month-spec : {M : Type 1} → statement M
 before-month-spec =
@@ -51,6 +53,7 @@ before-month-spec =
     μ-loop
     loop-holds
     month-days-requires
+    cast-n
     add-n
     add-k
     loop-less

@@ -21,9 +21,6 @@ returns-2 c =
     let a = c .before .before .before .args in
     rw (eq-eqb (a .month) 2 (c .before .before .if1 .taken), ← c .before .is-leap .ensures, c .if2 .left, c .before .before .if1 .taken)
 
-mul-result : tie.Need-mul-result
-mul-result c = search needs
-
 array-read-result : tie.Need-array-read-result
 array-read-result c = search needs
 
@@ -42,4 +39,4 @@ returns-4 c =
 pub month-days-spec : {M : Type 1} → statement M
 month-days-spec =
     tie.close
-    (tie.spec is-leap-requires returns returns-2 mul-result array-read-result returns-3 returns-4)
+    (tie.spec is-leap-requires returns returns-2 array-read-result returns-3 returns-4)
