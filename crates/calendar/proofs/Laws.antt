@@ -8,13 +8,13 @@ use lib.Dec.{eqb, eqb→eq}
 use Rattle.laws.specs.Tables.{at}
 use Rattle.calendar.specs.Calendar.{beforeYear, beforeMonth, weekday, lastSunday}
 
--- a day for each year and each leap year before, without whole weeks
-abbrev pub closed : ℕ → ℕ
-closed y = (y + (y + 3) / 4 + (y + 399) / 400 - (y + 99) / 100) % 7
+-- the leap years before a year of the first period: every fourth, with the year 0, without every hundredth
+abbrev pub leaps : ℕ → ℕ
+leaps y = (y + 3) / 4 + (y + 399) / 400 - (y + 99) / 100
 
--- one test, computed at each of the 400 years of a period
-pub year-closed : (y : ℕ) → y < 400 → closed y ≡ beforeYear y % 7
-year-closed y l = eqb→eq _ _ (at (λ (k x : ℕ). eqb (closed k) (beforeYear k % 7)) (replicate 400 0) tt y l)
+-- a year leaves one day beside its weeks, a leap year two: one test, computed at each of the 400 years
+pub year-weeks : (y : ℕ) → y < 400 → (y + leaps y) % 7 ≡ beforeYear y % 7
+year-weeks y l = eqb→eq _ _ (at (λ (k x : ℕ). eqb ((k + leaps k) % 7) (beforeYear k % 7)) (replicate 400 0) tt y l)
 
 -- a last Sunday is a Sunday, and the next one is past the 31st
 pub sunday : (y m : ℕ) → (weekday y m (lastSunday y m) ≡ 0) × (24 < lastSunday y m) × (lastSunday y m ≤ 31)

@@ -1,7 +1,7 @@
 // The proleptic Gregorian calendar: dates and times that exist, last Sundays, and the summer time of German legal time.
 ghost use mathlib.Core.Path.{_≡_};
 ghost use Prim.Native.Nat.{_%_, _≤_, _<_};
-ghost use Rattle.calendar.specs.Calendar.{isLeap, monthDays, beforeYear, beforeMonth, isDate, isTime, lastSunday, momentOf, isMesz};
+ghost use Rattle.calendar.specs.Calendar.{isLeap, monthDays, beforeMonth, isDate, isTime, lastSunday, momentOf, isMesz};
 
 // Years are counted from 1200 years before the year 0.
 pub const ERA_START: u16 = 1200;
@@ -53,14 +53,6 @@ pub fn is_time(hour: u8, minute: u8) -> bool
     minute <= 59
 }
 
-// The days before a year, without whole weeks: a year of 365 days leaves one.
-fn before_year(year: u16) -> u16
-    requires { ⌜ year < 400 ⌝ }
-    ensures { λ r. ⌜ r ≡ beforeYear year % 7 ⌝ }
-{
-    (year + (year + 3) / 4 + (year + 399) / 400 - (year + 99) / 100) % 7
-}
-
 // The days of a year before one of its months, without whole weeks.
 fn before_month(year: u16, month: u8) -> u16
     ensures { λ r. ⌜ r ≡ beforeMonth year month % 7 ⌝ }
@@ -74,12 +66,14 @@ fn before_month(year: u16, month: u8) -> u16
     n
 }
 
-// The last Sunday of a month of 31 days, in a year of one period.
+// The last Sunday of a month of 31 days, in one of the first 400 years. Beside whole weeks a year leaves a day, a leap year
+// two.
 fn last_sunday_in_period(year: u16, month: u8) -> u16
     requires { ⌜ year < 400 ⌝ }
     ensures { λ r. ⌜ r ≡ lastSunday year month ⌝ }
 {
-    31 - (before_year(year) + before_month(year, month) + 30 + 6) % 7
+    let leaps = (year + 3) / 4 + (year + 399) / 400 - (year + 99) / 100;
+    31 - (year + leaps + before_month(year, month) + 30 + 6) % 7
 }
 
 // The last Sunday of a month of 31 days. Weekdays recur after 400 years.

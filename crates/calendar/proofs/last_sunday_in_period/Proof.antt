@@ -2,18 +2,31 @@ use Prim.Native.Nat.{ℕ, _+_, _-_, _%_}
 use mathlib.Core.Path.{_≡_}
 use native.Mathlib.Omega.{arith}
 use Rattle.calendar.specs.Calendar.{beforeYear, beforeMonth, lastSunday}
+use Rattle.calendar.proofs.Laws.{leaps, year-weeks}
 use borrow.Author.Needs.{needs}
 use Rattle.calendar.proofs.last_sunday_in_period.Statement.{statement}
 use Rattle.calendar.proofs.last_sunday_in_period.Tie as tie
 
-before-year-requires : tie.Need-before-year-requires
-before-year-requires c κs = search needs
+add-leaps : tie.Need-add-leaps
+add-leaps c = search needs
 
-before-month-requires : tie.Need-before-month-requires
-before-month-requires c κs = search needs
+add-leaps-2 : tie.Need-add-leaps-2
+add-leaps-2 c = search needs
+
+add-leaps-3 : tie.Need-add-leaps-3
+add-leaps-3 c = search needs
+
+add-leaps-4 : tie.Need-add-leaps-4
+add-leaps-4 c = search needs
+
+sub-leaps : tie.Need-sub-leaps
+sub-leaps c = search needs
 
 add-result : tie.Need-add-result
 add-result c = search needs
+
+before-month-requires : tie.Need-before-month-requires
+before-month-requires c κs = search needs
 
 add-result-2 : tie.Need-add-result-2
 add-result-2 c = search needs
@@ -21,26 +34,35 @@ add-result-2 c = search needs
 add-result-3 : tie.Need-add-result-3
 add-result-3 c = search needs
 
+add-result-4 : tie.Need-add-result-4
+add-result-4 c = search needs
+
 sub-result : tie.Need-sub-result
 sub-result c = search needs
 
 returns : tie.Need-returns
 unfolding lastSunday
 returns c =
-    let a = c .before .before .args in
-    rw (c .before .before-year .ensures, c .before-month .ensures) (weeks (beforeYear (a .year)) (beforeMonth (a .year) (a .month)))
+    let a = c .before .args in
+    let y = a .year in
+    rw (c .before-month .ensures) (weeks (y + leaps y) (beforeYear y) (beforeMonth y (a .month)) (year-weeks y (c .before .pre)))
   where
-    weeks : (n d : ℕ) → 31 - (n % 7 + d % 7 + 30 + 6) % 7 ≡ 31 - (n + d + 30 + 6) % 7
-    weeks n d = omega arith
+    weeks : (n b d : ℕ) → n % 7 ≡ b % 7 → 31 - (n + d % 7 + 30 + 6) % 7 ≡ 31 - (b + d + 30 + 6) % 7
+    weeks n b d e = omega arith
 
 pub last-sunday-in-period-spec : {M : Type 1} → statement M
 last-sunday-in-period-spec =
     tie.close
     (tie.spec
-    before-year-requires
-    before-month-requires
+    add-leaps
+    add-leaps-2
+    add-leaps-3
+    add-leaps-4
+    sub-leaps
     add-result
+    before-month-requires
     add-result-2
     add-result-3
+    add-result-4
     sub-result
     returns)
