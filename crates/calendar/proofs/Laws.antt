@@ -1,4 +1,4 @@
--- Laws of the calendar: the days before a year of the first period, without whole weeks, and what a last Sunday is. Assumes nothing.
+-- Laws of the calendar: the days before one of the first 400 years, without whole weeks, and what a last Sunday is. Assumes nothing.
 use Prim.Native.Nat.{ℕ, _+_, _-_, _/_, _%_, _≤_, _<_}
 use mathlib.Core.Path.{_≡_}
 use native.Mathlib.Nat.{mod-lt}
@@ -8,7 +8,7 @@ use lib.Dec.{eqb, eqb→eq}
 use Rattle.laws.specs.Tables.{at}
 use Rattle.calendar.specs.Calendar.{beforeYear, beforeMonth, weekday, lastSunday}
 
--- the leap years before a year of the first period: every fourth, with the year 0, without every hundredth
+-- the leap years before one of the first 400: every fourth, but of the hundredth ones the year 0 only
 abbrev pub leaps : ℕ → ℕ
 leaps y = (y + 3) / 4 + (y + 399) / 400 - (y + 99) / 100
 
