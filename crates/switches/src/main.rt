@@ -2,8 +2,9 @@
 // by the period of the weekdays. Writes each date that differs, how many were looked at, and how many of them differ.
 use calendar::ERA_START;
 use libc::STDOUT_FILENO;
-ghost use Prim.Native.Nat.{_+_, _*_, _≤_};
+ghost use Prim.Native.Nat.{_+_, _-_, _*_, _%_, _≤_};
 ghost use mathlib.Core.Path.{_≡_};
+ghost use Rattle.switches.specs.Switches.{switching, agreeing, differing};
 
 // The number of the known Sunday, 29 March 2026: a multiple of 7, and so large that no day looked at is below 0.
 const KNOWN_SUNDAY: u32 = 7_000_000;
@@ -67,41 +68,54 @@ fn say_differing(year: u16, month: u8, day: u8) {
     say(b"\n");
 }
 
-// Whether the calendar has this day for the last Sunday, and summer time begins or ends on it at 01:00.
-fn agrees(year: u16, month: u8, day: u8) -> bool {
+// Whether summer time ends on the day at 01:00, or begins, where the month is not October.
+fn switches(year: u16, month: u8, day: u8) -> bool
+    ensures { λ r. ⌜ r ≡ switching year month day ⌝ }
+{
+    let early = calendar::is_mesz(year, month, day, 0, 59);
+    let late = calendar::is_mesz(year, month, day, 1, 0);
+    if month == 10 {
+        if late {
+            return false;
+        }
+        return early;
+    }
+    if early {
+        return false;
+    }
+    late
+}
+
+// Whether the calendar has the day for the last Sunday, and summer time switches on it.
+fn agrees(year: u16, month: u8, day: u8) -> bool
+    ensures { λ r. ⌜ r ≡ agreeing year month day ⌝ }
+{
     if calendar::last_sunday(year, month) != day as u32 {
         return false;
     }
-    let ends = month == 10;
-    if calendar::is_mesz(year, month, day, 0, 59) != ends {
-        return false;
-    }
-    calendar::is_mesz(year, month, day, 1, 0) != ends
+    switches(year, month, day)
 }
 
-// One date more: the last Sunday of a month whose 31st has this number.
+// One date more: the last Sunday of a month whose 31st has this number. A date that differs is counted.
 fn look(seen: Seen, year: u16, month: u8, number: u32) -> Seen
     requires { ⌜ (seen .dates ≤ 1000000) × (seen .differ ≤ seen .dates) ⌝ }
-    ensures { λ r. ⌜ (r .dates ≡ seen .dates + 1) × (r .differ ≤ r .dates) ⌝ }
+    ensures { λ r. ⌜ (r .dates ≡ seen .dates + 1) × ((r .differ ≡ seen .differ + differing year month (31 - number % 7)) × (r .differ ≤ r .dates)) ⌝ }
 {
     let day = (31 - number % 7) as u8;
+    let dates = seen.dates + 1;
     if agrees(year, month, day) {
-        return Seen {
-            dates: seen.dates + 1,
-            differ: seen.differ,
-        };
+        let differ = seen.differ;
+        return Seen { dates, differ };
     }
     say_differing(year, month, day);
-    Seen {
-        dates: seen.dates + 1,
-        differ: seen.differ + 1,
-    }
+    let differ = seen.differ + 1;
+    Seen { dates, differ }
 }
 
 // Both dates of a year more; 214 days after 31 March comes 31 October.
 fn look_at_year(seen: Seen, year: u16, march_31: u32) -> Seen
     requires { ⌜ (march_31 ≤ 100000000) × ((seen .dates ≤ 900000) × (seen .differ ≤ seen .dates)) ⌝ }
-    ensures { λ r. ⌜ (r .dates ≡ seen .dates + 2) × (r .differ ≤ r .dates) ⌝ }
+    ensures { λ r. ⌜ (r .dates ≡ seen .dates + 2) × ((r .differ ≡ seen .differ + differing year 3 (31 - march_31 % 7) + differing year 10 (31 - (march_31 + 214) % 7)) × (r .differ ≤ r .dates)) ⌝ }
 {
     look(look(seen, year, 3, march_31), year, 10, march_31 + 214)
 }

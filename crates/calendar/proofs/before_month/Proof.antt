@@ -1,9 +1,9 @@
 use borrow.Author.Needs.{needs}
-use Prim.Native.Nat.{ℕ, _+_, _-_, _%_, _≤_}
+use Prim.Native.Nat.{ℕ, _-_, _%_, _≤_}
 use mathlib.Core.Path.{_≡_, refl, ap, _∙_}
 use native.Mathlib.Omega.{arith}
 use native.Mathlib.Numerals.{add-one}
-use Rattle.calendar.specs.Calendar.{monthDays, beforeMonth}
+use Rattle.calendar.specs.Calendar.{beforeMonth}
 use Rattle.calendar.proofs.before_month.Statement.{statement}
 use Rattle.calendar.proofs.before_month.Tie as tie
 
@@ -32,13 +32,7 @@ loop-less : tie.Need-loop-less Inv-loop μ-loop
 loop-less c = omega arith
 
 loop-again : tie.Need-loop-again Inv-loop μ-loop
-loop-again c =
-    let a = c .before .before .before .args in
-    let l = c .before .before .loop in
-    (rw (l .inv .0, c .month-days .ensures, add-one (l .k)) (weeks (beforeMonth (a .year) (l .k)) (monthDays (a .year) (l .k))), omega arith)
-  where
-    weeks : (n d : ℕ) → (n % 7 + d) % 7 ≡ (n + d) % 7
-    weeks n d = omega arith
+loop-again c = (rw (add-one (c .before .before .loop .k)) (omega (arith, c .month-days .ensures)), omega arith)
 
 returns : tie.Need-returns Inv-loop μ-loop
 returns c =

@@ -1,8 +1,6 @@
-use Prim.Native.Nat.{ℕ, _+_, _-_, _%_}
-use mathlib.Core.Path.{_≡_}
 use native.Mathlib.Omega.{arith}
-use Rattle.calendar.specs.Calendar.{beforeYear, beforeMonth, lastSunday}
-use Rattle.calendar.proofs.Laws.{leaps, year-weeks}
+use Rattle.calendar.specs.Calendar.{lastSunday}
+use Rattle.calendar.proofs.Laws.{year-weeks}
 use borrow.Author.Needs.{needs}
 use Rattle.calendar.proofs.last_sunday_in_period.Statement.{statement}
 use Rattle.calendar.proofs.last_sunday_in_period.Tie as tie
@@ -42,13 +40,7 @@ sub-result c = search needs
 
 returns : tie.Need-returns
 unfolding lastSunday
-returns c =
-    let a = c .before .args in
-    let y = a .year in
-    rw (c .before-month .ensures) (weeks (y + leaps y) (beforeYear y) (beforeMonth y (a .month)) (year-weeks y (c .before .pre)))
-  where
-    weeks : (n b d : ℕ) → n % 7 ≡ b % 7 → 31 - (n + d % 7 + 30 + 6) % 7 ≡ 31 - (b + d + 30 + 6) % 7
-    weeks n b d e = omega arith
+returns c = omega (arith, c .before-month .ensures, year-weeks (c .before .args .year) (c .before .pre))
 
 pub last-sunday-in-period-spec : {M : Type 1} → statement M
 last-sunday-in-period-spec =
