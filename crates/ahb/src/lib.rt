@@ -1,4 +1,7 @@
 // The functions for callers in C and Rust. Each answers with one number: a refusal with its own, 1 to 17.
+
+#![tactic(auto)]
+
 ghost use Rattle.std.specs.Prelude.{◌≡◌, ◌+◌, ◌≤◌, length};
 ghost use Rattle.citation.specs.Truths.{truth_number};
 ghost use Rattle.grammar.specs.Outcome.{answer_of, written_of};

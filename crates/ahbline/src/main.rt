@@ -3,6 +3,9 @@
 // A line feed ends a line and is no part of it. Of an input with fewer lines the others are empty.
 // A carriage return is a byte like any other, so lines that end with one are refused by 16. What
 // comes after the third line is not looked at.
+
+#![tactic(auto)]
+
 ghost use Rattle.std.specs.Prelude.{◌≤◌, ◌<◌, length};
 ghost use Rattle.line.specs.Sizes.{longest_report};
 ghost use Rattle.line.specs.Input.{Buffers, Sized};
@@ -11,7 +14,7 @@ use libc::{STDIN_FILENO, STDOUT_FILENO};
 use line::{ANSWERS_KEPT, Held, LINES_SIZE, STATUS_KEPT, VALUE_KEPT, feed_all, report_held};
 
 // What is held of the input, and whether more of it is to be read.
-#[derive(Drop)]
+#[derive(Clone, Copy)]
 struct Turn {
     more: bool,
     held: Held,

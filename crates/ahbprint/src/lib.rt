@@ -1,4 +1,7 @@
 // Printing for callers in C and Rust; the benchmark calls it. It answers as the functions of `ahb` do.
+
+#![tactic(auto)]
+
 ghost use Rattle.std.specs.Prelude.{◌≡◌, length};
 ghost use Rattle.grammar.specs.Outcome.{answer_of, written_of, display_answer};
 ghost use Rattle.printer.specs.Said.{display_said};

@@ -4,6 +4,9 @@
 // line of a run are not looked at. Of the refusals four cannot arise: 6, since a word alone is
 // accepted; 14, since the buffers are long enough; 15, since the tree was read; 17, since unreadable
 // packages are skipped.
+
+#![tactic(auto)]
+
 ghost use Rattle.std.specs.Prelude.{◌≤◌, ◌<◌, length};
 ghost use Rattle.line.specs.Sizes.{longest_report};
 ghost use Rattle.line.specs.Input.{Buffers, Sized};
@@ -12,7 +15,7 @@ use libc::{STDIN_FILENO, STDOUT_FILENO};
 use line::{ANSWERS_KEPT, Held, LINES_SIZE, STATUS_KEPT, VALUE_KEPT, feed, report_held};
 
 // What is held of the present run, and whether there was input.
-#[derive(Drop)]
+#[derive(Clone, Copy)]
 struct Turn {
     more: bool,
     held: Held,

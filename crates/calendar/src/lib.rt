@@ -1,4 +1,7 @@
 // The proleptic Gregorian calendar: dates and times that exist, last Sundays, and the summer time of German legal time.
+
+#![tactic(auto)]
+
 ghost use Rattle.std.specs.Prelude.{◌≡◌, ◌%◌, ◌≤◌, ◌<◌};
 ghost use Rattle.calendar.specs.Calendar.{is_leap, month_days, before_month, is_date, is_time, last_sunday, moment_of, is_mesz};
 

@@ -1,4 +1,7 @@
 // What a citation is: its kind, the bounds of a Paket citation, and the truth that is said of a condition.
+
+#![tactic(auto)]
+
 ghost use Rattle.std.specs.Prelude.{◌≡◌};
 ghost use Rattle.text.specs.Digits.{digits_up_to};
 ghost use Rattle.citation.specs.Truths.{truth_number, truth_of};
@@ -18,7 +21,7 @@ const LARGEST_BOUND: u64 = 18446744073709551615;
 const SMALL_NUMBER: u64 = 429496728;
 
 // The value of a condition.
-#[derive(Drop)]
+#[derive(Clone, Copy)]
 pub enum Truth {
     False,
     Unknown,
@@ -46,7 +49,7 @@ impl Truth {
 }
 
 // What kind of condition a citation names.
-#[derive(Drop)]
+#[derive(Clone, Copy)]
 pub enum ConditionKind {
     Voraussetzung,
     Hinweis,
@@ -58,7 +61,7 @@ pub enum ConditionKind {
 }
 
 // A kind, or why there is none.
-#[derive(Drop)]
+#[derive(Clone, Copy)]
 pub enum KindAnswer {
     Known(ConditionKind),
     Refused(Refusal),
@@ -164,7 +167,7 @@ impl ConditionKind {
 }
 
 // How often a Paket's code may stand: at least low, and at most high where that is bounded. The Paket's name is the first `name` bytes.
-#[derive(Drop)]
+#[derive(Clone, Copy)]
 pub struct Paket {
     pub name: usize,
     pub low: u64,
@@ -173,7 +176,7 @@ pub struct Paket {
 }
 
 // A Paket, or why there is none.
-#[derive(Drop)]
+#[derive(Clone, Copy)]
 pub enum PaketAnswer {
     Read(Paket),
     Refused(Refusal),

@@ -1,4 +1,7 @@
 // Decimal numbers as text: which texts are numbers, the order of their exact values against an integer, and the digits that count.
+
+#![tactic(auto)]
+
 ghost use Rattle.std.specs.Prelude.{◌≡◌, true, ◌++◌, ◌*◌, ◌^◌, min, length};
 ghost use Rattle.text.specs.Bytes.{all};
 ghost use Rattle.text.specs.Digits.{all_digits, nat_of};
@@ -6,7 +9,7 @@ ghost use Rattle.decimal.specs.Decimal.{is_negative, sign_width, unsigned_of, in
 ghost use Rattle.decimal.specs.Signs.{by_sign};
 
 // How a text stands to an integer.
-#[derive(Drop)]
+#[derive(Clone, Copy)]
 pub enum Order {
     Less,
     Equal,

@@ -3,6 +3,9 @@
 //
 // A byte that is no printable character is written `\x` and two digits, an empty text `""`, and a
 // text of 100 bytes and more, which is one byte over and over, by that byte and its length.
+
+#![tactic(auto)]
+
 ghost use Rattle.std.specs.Prelude.{◌≤◌, length};
 
 use citation::{ConditionKind, KindAnswer, Paket, PaketAnswer, Truth};
@@ -209,7 +212,7 @@ fn truth(is: bool) {
 }
 
 // What a word is put to.
-#[derive(Drop)]
+#[derive(Clone, Copy)]
 enum Ask {
     Value,
     Condition,

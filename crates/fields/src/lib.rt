@@ -1,4 +1,7 @@
 // Numbers of two bytes at a place of a byte string, and bytes written one after another.
+
+#![tactic(auto)]
+
 ghost use Rattle.std.specs.Prelude.{◌≡◌, [], ◌∷◌, ◌+◌, ◌≤◌, ◌<◌, length};
 ghost use Rattle.grammar.specs.Bytes.{field, two_bytes};
 ghost use Rattle.fields.specs.Appended.{Appended};

@@ -1,4 +1,7 @@
 // Format conditions: what each of the 47 that have an evaluator here says of a value.
+
+#![tactic(auto)]
+
 ghost use Rattle.std.specs.Prelude.{◌≡◌, ◌≤◌, length, drop, [], ◌∷◌, ◌++◌};
 ghost use Rattle.formats.specs.Rules.{meets, group_ahead, digit_groups, is_unoc_upper, bound, any_number, whole_between, fraction_up_to, integer_up_to, groups_of, length_is, length_up_to, field_is, hhmm_in, unoc_upper, zzz_utc, email_shape, phone_shape, boundary_at, boundary_of, passes, verdict_of, judged};
 ghost use Rattle.formats.specs.Table.{digit_rules, shape_rules, time_rules, rules, id_of, judged_in, verdict};
@@ -10,7 +13,7 @@ use refusal::Refusal;
 use utf8::Admitted;
 
 // What a format condition says of one value.
-#[derive(Drop)]
+#[derive(Clone, Copy)]
 pub enum FormatVerdict {
     Holds,
     Violated,
@@ -40,7 +43,7 @@ impl FormatVerdict {
 }
 
 // How a number has to stand to a bound.
-#[derive(Drop)]
+#[derive(Clone, Copy)]
 pub enum Relation {
     AtLeast,
     AtMost,
@@ -51,14 +54,14 @@ pub enum Relation {
 }
 
 // A verdict, or why there is none.
-#[derive(Drop)]
+#[derive(Clone, Copy)]
 pub enum VerdictAnswer {
     Verdict(FormatVerdict),
     Refused(Refusal),
 }
 
 // Whether there is an evaluator, or why that is not said.
-#[derive(Drop)]
+#[derive(Clone, Copy)]
 pub enum RegisteredAnswer {
     Known(bool),
     Refused(Refusal),

@@ -1,4 +1,7 @@
 // From a text in UTF-8 to tokens: a byte a token, the place of each citation's text, and the tests that come before parsing. For a status, its first word and its other words joined.
+
+#![tactic(auto)]
+
 ghost use Rattle.std.specs.Prelude.{◌≡◌, true, false, ◌++◌, ◌+◌, ◌-◌, ◌≤◌, ◌<◌, length, take, drop, set};
 ghost use Rattle.refusal.specs.Result.{map_ok};
 ghost use Rattle.text.specs.Bytes.{over};
@@ -42,21 +45,21 @@ pub const CITED_LIMIT: usize = 2048;
 pub const OPEN_LIMIT: usize = 256;
 
 // Part of a text: its first byte's number, and the number of the byte after it.
-#[derive(Drop)]
+#[derive(Clone, Copy)]
 pub struct Span {
     pub from: usize,
     pub end: usize,
 }
 
 // Where a citation's text ends, or why there is none.
-#[derive(Drop)]
+#[derive(Clone, Copy)]
 enum Close {
     At(usize),
     Never(Refusal),
 }
 
 // What stands at a place, with the number of the byte after it.
-#[derive(Drop)]
+#[derive(Clone, Copy)]
 enum Token {
     Space(usize),
     Mark { kind: u8, next: usize },
@@ -65,7 +68,7 @@ enum Token {
 }
 
 // How far lexing is: the next byte's number; tokens, citations, the bytes in them, and open parentheses so far.
-#[derive(Drop)]
+#[derive(Clone, Copy)]
 struct Count {
     pub at: usize,
     pub tokens: usize,
@@ -74,14 +77,14 @@ struct Count {
     pub depth: usize,
 }
 
-#[derive(Drop)]
+#[derive(Clone, Copy)]
 enum Turn {
     On(Count),
     Off(Refusal),
 }
 
 // The counts of tokens, citations and bytes in them.
-#[derive(Drop)]
+#[derive(Clone, Copy)]
 pub enum Lexed {
     Tokens {
         tokens: usize,

@@ -1,4 +1,7 @@
 // The lines that ahbline writes for its three lines.
+
+#![tactic(auto)]
+
 ghost use Rattle.std.specs.Prelude.{◌≡◌, true, ◌∷◌, ◌+◌, ◌*◌, ◌≤◌, ◌<◌, length, take};
 ghost use Rattle.refusal.specs.Refusals.{number_of};
 ghost use Rattle.status.specs.Status.{word_of};
@@ -43,14 +46,14 @@ const ROWS_SIZE: usize = 4864;
 pub const LINES_SIZE: usize = 6708;
 
 // The length of the lines, or why they were not written.
-#[derive(Drop)]
+#[derive(Clone, Copy)]
 pub enum ReportAnswer {
     Length(usize),
     Refused(Refusal),
 }
 
 // Which line of an input is next to be read, from 0 and at most 3, and how many bytes of the first three are kept.
-#[derive(Drop)]
+#[derive(Clone, Copy)]
 pub struct Held {
     pub row: usize,
     pub status: usize,

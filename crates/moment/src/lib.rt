@@ -1,4 +1,7 @@
 // The moment that a value gives, and the day boundaries of German legal time, written in UTC.
+
+#![tactic(auto)]
+
 ghost use Rattle.std.specs.Prelude.{◌≡◌, ◌≤◌};
 ghost use Rattle.moment.specs.Moments.{field_of, signed_year, year_of, existing_of, moment_of, day_boundary};
 
@@ -8,7 +11,7 @@ use text::Found;
 const ERA_START: u64 = calendar::ERA_START as u64;
 
 // A date and a time that exist; years are counted as the calendar counts them.
-#[derive(Drop)]
+#[derive(Clone, Copy)]
 pub enum Moment {
     At {
         year: u16,

@@ -1,4 +1,7 @@
 // The bounds of a tree's Paket citations, as rows.
+
+#![tactic(auto)]
+
 ghost use Rattle.std.specs.Prelude.{◌≡◌, true, cond, ◌+◌, ◌*◌, ◌≤◌, ◌<◌, length};
 ghost use Rattle.citation.specs.Pakete.{paket_said};
 ghost use Rattle.grammar.specs.Expr.{concat};
@@ -19,7 +22,7 @@ use tree::{cite_count, is_tree, text_at};
 pub const PAKET_SIZE: usize = 19;
 
 // The number of package rows, or why there are none.
-#[derive(Drop)]
+#[derive(Clone, Copy)]
 pub enum PaketeAnswer {
     Rows(usize),
     Refused(Refusal),

@@ -1,4 +1,7 @@
 // From the kinds of tokens to the node rows of the expression that they are.
+
+#![tactic(auto)]
+
 ghost use Rattle.std.specs.Prelude.{◌≡◌, ◌+◌, ◌*◌, ◌-◌, ◌/◌, ◌%◌, ◌≤◌, ◌<◌, cond, eqb, length};
 ghost use Rattle.refusal.specs.Result.{map_ok};
 ghost use Rattle.utf8.specs.Limits.{text_limit};
@@ -16,7 +19,7 @@ use refusal::Refusal;
 const THEN: u8 = 1;
 
 // A place in the tokens, the rows written and the citations met; of what was read last, its kind and number of operands.
-#[derive(Drop)]
+#[derive(Clone, Copy)]
 pub struct Pos {
     pub at: usize,
     pub rows: usize,
@@ -25,14 +28,14 @@ pub struct Pos {
     pub kids: usize,
 }
 
-#[derive(Drop)]
+#[derive(Clone, Copy)]
 pub enum Step {
     On(Pos),
     Off(Refusal),
 }
 
 // How many rows there are, or why there are none.
-#[derive(Drop)]
+#[derive(Clone, Copy)]
 pub enum Parsed {
     Rows(usize),
     Refused(Refusal),

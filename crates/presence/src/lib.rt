@@ -1,4 +1,7 @@
 // Presence: whether a place is to be filled, from tree bytes and one answer byte a citation.
+
+#![tactic(auto)]
+
 ghost use Rattle.std.specs.Prelude.{◌≡◌, true, false, ◌&&◌, ◌||◌, ◌+◌, ◌≤◌, ◌<◌, eqb, leb, length};
 ghost use Rattle.text.specs.Bytes.{all};
 ghost use Rattle.grammar.specs.Expr.{citations};
@@ -32,7 +35,7 @@ const KEPT: u8 = 1;
 const GATING: u8 = 2;
 
 // The truth of the whole, or why there is none.
-#[derive(Drop)]
+#[derive(Clone, Copy)]
 pub enum EvalAnswer {
     Value(Truth),
     Refused(Refusal),
@@ -45,7 +48,7 @@ fn either(a: bool, b: bool) -> bool
 }
 
 // Which values were met: False, Unknown, True, and True a second time.
-#[derive(Drop)]
+#[derive(Clone, Copy)]
 struct Tally {
     no: bool,
     unknown: bool,

@@ -1,4 +1,7 @@
 // Printing a tree, as `Display` writes it.
+
+#![tactic(auto)]
+
 ghost use Rattle.std.specs.Prelude.{◌≡◌, true, ◌+◌, ◌≤◌, ◌<◌, length};
 ghost use Rattle.fields.specs.Appended.{Appended};
 ghost use Rattle.grammar.specs.Print.{in_bytes, printed};
@@ -16,7 +19,7 @@ use tree::{is_tree, kind_at, number_at, size_at, text_at};
 pub const PRINT_LIMIT: usize = 4343;
 
 // The print's length, or why there is none.
-#[derive(Drop)]
+#[derive(Clone, Copy)]
 pub enum Displayed {
     Done(usize),
     Refused(Refusal),

@@ -1,5 +1,8 @@
 // Lines of a word and fields, each after one space: byte strings read from lower-case hex, and
 // written.
+
+#![tactic(auto)]
+
 ghost use Rattle.std.specs.Prelude.{◌≡◌, [], ◌+◌, ◌*◌, ◌≤◌, ◌<◌, length, get_or};
 ghost use Rattle.fields.specs.Appended.{Appended};
 ghost use Rattle.protocol.specs.Hex.{digit_of, digit_value, field_of, pairs, filled, Within};
@@ -9,7 +12,7 @@ ghost use Rattle.protocol.specs.Pieces.{spaces_of, pieces, width};
 use fields::put_byte;
 
 // Whether a field is a byte string, and how many bytes were put at the start of a lent buffer.
-#[derive(Drop)]
+#[derive(Clone, Copy)]
 pub struct Filled {
     pub good: bool,
     pub len: usize,

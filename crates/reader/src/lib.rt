@@ -1,4 +1,7 @@
 // Reading a text, and a status, as the bytes of a tree.
+
+#![tactic(auto)]
+
 ghost use Rattle.std.specs.Prelude.{◌≡◌, true, ◌+◌, ◌≤◌, length, drop};
 ghost use Rattle.utf8.specs.Utf8.{is_utf8, decode};
 ghost use Rattle.utf8.specs.Limits.{text_limit};
@@ -26,14 +29,14 @@ const MEDIUM: usize = 128;
 const MEDIUM_NODES: usize = 255;
 
 // The length of the tree that was written, or why there is none.
-#[derive(Drop)]
+#[derive(Clone, Copy)]
 pub enum ParseAnswer {
     Length(usize),
     Refused(Refusal),
 }
 
 // The status word, with the length of the tree that was written after it if there is one; or why there is no status.
-#[derive(Drop)]
+#[derive(Clone, Copy)]
 pub enum StatusAnswer {
     Alone(StatusKind),
     Tree { kind: StatusKind, length: usize },
@@ -41,7 +44,7 @@ pub enum StatusAnswer {
 }
 
 // The counts of node rows, of citations and of the bytes in them.
-#[derive(Drop)]
+#[derive(Clone, Copy)]
 enum Sizes {
     Tree {
         nodes: usize,
@@ -51,10 +54,10 @@ enum Sizes {
     Refused(Refusal),
 }
 
-#[derive(Drop)]
+#[derive(Clone, Copy)]
 pub struct Expr {}
 
-#[derive(Drop)]
+#[derive(Clone, Copy)]
 pub struct Status {}
 
 // The node rows of a text, and the places of its citations.

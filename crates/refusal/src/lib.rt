@@ -1,8 +1,11 @@
 // Why an input is turned back. Each has a number, under which callers and the documents know it.
+
+#![tactic(auto)]
+
 ghost use Rattle.std.specs.Prelude.{◌≡◌};
 ghost use Rattle.refusal.specs.Refusals.{number_of};
 
-#[derive(Drop)]
+#[derive(Clone, Copy)]
 pub enum Refusal {
     // A character that is no citation, operator, parenthesis or white space.
     Stray,

@@ -8,7 +8,7 @@ use refusal::Refusal;
 use tree::{CITATION_LIMIT, CitedText};
 
 // What a request is answered: a number, a letter, a Paket's bounds, the first bytes of its text, or why not.
-#[derive(Drop)]
+#[derive(Clone, Copy)]
 pub enum Said {
     NoRequest,
     Fine,
@@ -20,7 +20,7 @@ pub enum Said {
 }
 
 // What a request with a lent buffer is answered before the buffer.
-#[derive(Drop)]
+#[derive(Clone, Copy)]
 pub enum Lent {
     NotLent,
     Done(u64),

@@ -29,6 +29,9 @@
 // Proved of this program: it is safe and ends, every function that it calls is called as its contract asks, and those meet
 // their contracts. Run and not proved: which bytes a line is answered with. They are held to the stored list, and compared
 // with the Rust original.
+
+#![tactic(auto)]
+
 ghost use Rattle.std.specs.Prelude.{◌≡◌, ◌+◌, ◌≤◌, ◌<◌, length};
 ghost use Rattle.replay.specs.Rooms.{room, HasRoom, Ready};
 ghost use Rattle.replay.specs.Held.{Held};
@@ -55,14 +58,14 @@ const HELD: usize = 65537;
 const OUT: usize = 131200;
 
 // How many bytes of the present line are held, and how many bytes of output wait.
-#[derive(Drop)]
+#[derive(Clone, Copy)]
 struct State {
     len: usize,
     waiting: usize,
 }
 
 // A state, and whether there was input.
-#[derive(Drop)]
+#[derive(Clone, Copy)]
 struct Turn {
     more: bool,
     state: State,

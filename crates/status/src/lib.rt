@@ -1,9 +1,12 @@
 // The status words, Muss, Soll, Kann, X, M, S and K, and the code of each.
+
+#![tactic(auto)]
+
 ghost use Rattle.std.specs.Prelude.{◌≡◌};
 ghost use Rattle.text.specs.Bytes.{same};
 ghost use Rattle.status.specs.Status.{code_of, kind_at, word_of, word_held, kind_of_word, word_said, is_receiver_checkable};
 
-#[derive(Drop)]
+#[derive(Clone, Copy)]
 pub enum StatusKind {
     // The information is always given.
     Muss,
@@ -22,14 +25,14 @@ pub enum StatusKind {
 }
 
 // A word: its bytes, then zeros, and how many the bytes are.
-#[derive(Drop)]
+#[derive(Clone, Copy)]
 pub struct Word {
     pub bytes: [u8; 4],
     pub len: usize,
 }
 
 // The kind that a word names.
-#[derive(Drop)]
+#[derive(Clone, Copy)]
 pub enum WordAnswer {
     Is(StatusKind),
     NoWord,

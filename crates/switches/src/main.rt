@@ -1,5 +1,8 @@
 // Holds the switch dates of every year from -999 to 9999 to a count of days from a known Sunday, in which no year is reduced
 // by the period of the weekdays. Writes each date that differs, how many were looked at, and how many of them differ.
+
+#![tactic(auto)]
+
 ghost use Rattle.std.specs.Prelude.{◌+◌, ◌-◌, ◌*◌, ◌%◌, ◌≤◌, ◌≡◌};
 ghost use Rattle.switches.specs.Switches.{switching, agreeing, differing};
 
@@ -16,7 +19,7 @@ const FIRST_YEAR: u16 = ERA_START - 999;
 const LAST_YEAR: u16 = ERA_START + 9999;
 
 // Switch dates looked at, and those of them that differ.
-#[derive(Drop)]
+#[derive(Clone, Copy)]
 struct Seen {
     dates: u32,
     differ: u32,

@@ -1,5 +1,8 @@
 // Writes the code of every white-space character, and every status word with its code and whether a receiver may check it:
 // the comparison holds both tables against the original.
+
+#![tactic(auto)]
+
 use libc::STDOUT_FILENO;
 use status::StatusKind;
 

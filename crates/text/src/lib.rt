@@ -1,10 +1,13 @@
 // Byte strings: where a text stands in another, parts, and unsigned numbers up to a largest one.
+
+#![tactic(auto)]
+
 ghost use Rattle.std.specs.Prelude.{◌≡◌, min, length, take, drop};
 ghost use Rattle.text.specs.Bytes.{begins, ends, same, place, part};
 ghost use Rattle.text.specs.Digits.{is_digit, all_digits, has_plus, plus_width, digits_up_to, number_up_to};
 
 // A number, or none.
-#[derive(Drop)]
+#[derive(Clone, Copy)]
 pub enum Found {
     Number(u64),
     Nothing,

@@ -1,4 +1,7 @@
 // The tree as bytes: whether a byte string is one (refusal 15), what stands in its rows, and its citations' texts.
+
+#![tactic(auto)]
+
 ghost use Rattle.std.specs.Prelude.{◌≡◌, true, ◌&&◌, ◌+◌, ◌*◌, ◌-◌, ◌≤◌, ◌<◌, length, drop};
 ghost use Rattle.utf8.specs.White.{is_white};
 ghost use Rattle.grammar.specs.Citable.{citable};
@@ -30,7 +33,7 @@ pub const NODE_LIMIT: usize = 511;
 pub const TREE_LIMIT: usize = 6150;
 
 // Where a citation's text stands in the tree.
-#[derive(Drop)]
+#[derive(Clone, Copy)]
 pub enum CitedText {
     At { start: usize, size: usize },
     Absent,

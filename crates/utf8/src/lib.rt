@@ -1,4 +1,7 @@
 // UTF-8: the character at a place, whether bytes are well-formed, how many characters they are, white space, and what is tested of every text first.
+
+#![tactic(auto)]
+
 ghost use Rattle.std.specs.Prelude.{◌≡◌, ◌&&◌, ◌+◌, ◌*◌, ◌^◌, ◌≤◌, ◌<◌, ltb, leb, length, drop};
 ghost use Rattle.refusal.specs.Result.{ok};
 ghost use Rattle.utf8.specs.Utf8.{lead_of, char_of, code_of, step_at, all_ascii, is_utf8, char_count};
@@ -8,14 +11,14 @@ ghost use Rattle.utf8.specs.Limits.{admitted, admit_said};
 use refusal::Refusal;
 
 // A row of table 3-7: how many bytes follow, the second byte's range, the first byte's part of the code.
-#[derive(Drop)]
+#[derive(Clone, Copy)]
 enum Lead {
     First(usize, u8, u8, u32),
     Never,
 }
 
 // The character at a place.
-#[derive(Drop)]
+#[derive(Clone, Copy)]
 pub enum Step {
     Char { code: u32, width: usize },
     Bad,
@@ -23,20 +26,20 @@ pub enum Step {
 }
 
 // A place in a text, by value: the number of the next byte.
-#[derive(Drop)]
+#[derive(Clone, Copy)]
 pub struct Cursor {
     pub at: usize,
 }
 
 // Whether a text was read to its end, and how many characters were passed.
-#[derive(Drop)]
+#[derive(Clone, Copy)]
 struct Scanned {
     pub whole: bool,
     pub chars: usize,
 }
 
 // Whether bytes may be read as a text or a value.
-#[derive(Drop)]
+#[derive(Clone, Copy)]
 pub enum Admitted {
     Fine,
     Refused(Refusal),

@@ -1,4 +1,7 @@
 // Whether a value is right by the Format and Zeitpunkt conditions of a tree, and which of them it violates.
+
+#![tactic(auto)]
+
 ghost use Rattle.std.specs.Prelude.{◌≡◌, true, ◌+◌, ◌≤◌, ◌<◌, length};
 ghost use Rattle.grammar.specs.Bytes.{nodes, cites, is_tree, tree_at};
 ghost use Rattle.grammar.specs.Outcome.{answer_of, written_of};
@@ -23,28 +26,28 @@ use utf8::Admitted;
 const LIST_SIZE: usize = 512;
 
 // The format truth of a tree, or why there is none.
-#[derive(Drop)]
+#[derive(Clone, Copy)]
 pub enum TruthAnswer {
     Value(Truth),
     Refused(Refusal),
 }
 
 // How many citations are violated, or why none are listed.
-#[derive(Drop)]
+#[derive(Clone, Copy)]
 pub enum ViolationsAnswer {
     Count(usize),
     Refused(Refusal),
 }
 
 // The presence and the format truth of a tree, or why there are none.
-#[derive(Drop)]
+#[derive(Clone, Copy)]
 pub enum BothAnswer {
     Value { presence: Truth, format: Truth },
     Refused(Refusal),
 }
 
 // Which truths the operands have had.
-#[derive(Drop)]
+#[derive(Clone, Copy)]
 struct Tally {
     pub no: bool,
     pub unknown: bool,
@@ -52,7 +55,7 @@ struct Tally {
 }
 
 // A row's truth, and the place after the numbers of its violated citations.
-#[derive(Drop)]
+#[derive(Clone, Copy)]
 struct Judged {
     pub truth: Truth,
     pub at: usize,

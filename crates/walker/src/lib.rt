@@ -1,4 +1,7 @@
 // A walker over a lent text: it carries the text and the next byte's number. Its methods take it apart and leave the work to functions with plain parameters.
+
+#![tactic(auto)]
+
 ghost use Rattle.std.specs.Prelude.{◌≡◌};
 ghost use Rattle.utf8.specs.Utf8.{step_at};
 ghost use Rattle.walker.specs.Next.{next_at};
@@ -6,7 +9,7 @@ ghost use Rattle.walker.specs.Next.{next_at};
 use utf8::Step;
 
 // The lent text, and the number of the next byte.
-#[derive(Drop)]
+#[derive(Clone, Copy)]
 pub struct Walker<'a> {
     text: &'a [u8],
     at: usize,

@@ -1,4 +1,7 @@
 // Writing a tree as bytes: header, node rows, citation rows, texts.
+
+#![tactic(auto)]
+
 ghost use Rattle.std.specs.Prelude.{◌≡◌, [], ◌∷◌, ◌+◌, ◌*◌, ◌%◌, ◌≤◌, ◌<◌, length, take};
 ghost use Rattle.fields.specs.Appended.{Appended};
 ghost use Rattle.grammar.specs.Expr.{concat};
