@@ -1,0 +1,16 @@
+use native.Mathlib.Omega.{arith}
+use Rattle.fields.proofs.Appends.{ends_two}
+use Rattle.packages.proofs.Laws.{after_eight, row_written}
+use Rattle.packages.proofs.put_row.Goals as goal
+
+pub put64-w-requires : goal.put64-w-requires
+put64-w-requires c = omega (arith, c.requires.0, ends_two c.args.n c.put16-w.ensures, c.put16-w.auto.0)
+
+pub put_byte-w-requires : goal.put_byte-w-requires
+put_byte-w-requires c = omega (arith, c.requires.0, ends_two c.args.n c.put16-w.ensures, c.put16-w.auto.0, after_eight c.args.p.low c.put64-w.ensures, c.put64-w.auto.0)
+
+pub put64-requires : goal.put64-requires
+put64-requires c = omega (arith, c.requires.0, ends_two c.args.n c.put16-w.ensures, c.put16-w.auto.0, after_eight c.args.p.low c.put64-w.ensures, c.put64-w.auto.0, c.put_byte-w.ensures.ends, c.put_byte-w.auto.0)
+
+pub returns : goal.returns
+returns c = row_written c.args.n c.args.p c.mark_of.result c.high_of.result c.mark_of.ensures c.high_of.ensures c.put16-w.ensures c.put64-w.ensures c.put_byte-w.ensures c.put64.ensures

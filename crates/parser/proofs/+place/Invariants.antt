@@ -1,0 +1,5 @@
+use Prim.Native.Nat.{◌-◌}
+use Rattle.parser.proofs.+place.Given as goal
+
+abbrev pub decreases-place : goal.decreases-place
+decreases-place l = l.top

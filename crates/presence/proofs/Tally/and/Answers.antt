@@ -1,0 +1,18 @@
+use Rattle.presence.specs.Tallies.{anded}
+use Rattle.presence.proofs.Tally.and.Goals as goal
+
+pub returns-then-self : goal.returns-then-self
+unfolding anded
+returns-then-self c = rw c.if-self.true
+
+pub returns-then-self-2 : goal.returns-then-self-2
+unfolding anded
+returns-then-self-2 c = rw (c.if-self.false, c.if-self-2.true)
+
+pub returns-then-self-3 : goal.returns-then-self-3
+unfolding anded
+returns-then-self-3 c = rw (c.if-self.false, c.if-self-2.false, c.if-self-3.true)
+
+pub returns-else-self-3 : goal.returns-else-self-3
+unfolding anded
+returns-else-self-3 c = rw (c.if-self.false, c.if-self-2.false, c.if-self-3.false)

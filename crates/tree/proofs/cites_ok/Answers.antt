@@ -1,0 +1,38 @@
+use native.Mathlib.Omega.{arith}
+use Prim.Native.Nat.{◌+◌, ◌-◌}
+use mathlib.Core.Path.{refl, sym, ◌∙◌}
+use borrow.Author.Tests.{not-true, not-false}
+use Rattle.tree.proofs.Plain.{plain_part}
+use Rattle.tree.proofs.Steps as steps
+use Rattle.tree.proofs.cites_ok.Goals as goal
+
+pub loop-left-init : goal.loop-left-init
+loop-left-init c = (omega arith, omega arith, refl, omega arith)
+
+pub returns-then-base-o : goal.returns-then-base-o
+returns-then-base-o c = steps.cite_off _ _ _ _ (omega arith) (λ e. omega (arith, c.get16-o.ensures.0, c.if-base-o.true, e, c.requires.0)) ∙ c.loop-left.invariant.2
+
+pub returns-then-tree-p : goal.returns-then-tree-p
+returns-then-tree-p c = steps.cite_long _ _ _ _ (omega arith) (omega (arith, c.get16-n.ensures.0)) ∙ c.loop-left.invariant.2
+
+pub text_ok-requires : goal.text_ok-requires
+text_ok-requires c = let a = c.args in
+    plain_part a.plain a.tree.now a.base c.loop-left.p (c.loop-left.p + c.get16-n.result - c.loop-left.p) c.loop-left.invariant.3 c.requires.3
+
+pub returns-then-not-text_ok : goal.returns-then-not-text_ok
+returns-then-not-text_ok c = steps.cite_text _ _ _ _ _ (omega arith) c.get16-n.ensures.0
+    (sym (c.text_ok.ensures ∙ steps.part_size c.loop-left.p c.get16-n.result c.args.tree.now) ∙ not-true _ c.if-not-text_ok.true-raw)
+    ∙ c.loop-left.invariant.2
+
+pub loop-left-preserved : goal.loop-left-preserved
+loop-left-preserved c = (
+  omega arith,
+  omega arith,
+  steps.cite_next _ _ _ _ _ _ (omega arith) (omega (arith, c.get16-o.ensures.0, c.if-base-o.false, c.requires.0)) c.get16-n.ensures.0 refl (omega arith)
+      (sym (c.text_ok.ensures ∙ steps.part_size c.loop-left.p c.get16-n.result c.args.tree.now) ∙ not-false _ c.if-not-text_ok.false-raw)
+      ∙ c.loop-left.invariant.2,
+  omega (arith, c.loop-left.invariant.3),
+)
+
+pub returns : goal.returns
+returns c = steps.cite_end_lem _ _ _ _ (omega arith) ∙ c.loop-left.invariant.2

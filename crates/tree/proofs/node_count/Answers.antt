@@ -1,0 +1,6 @@
+use native.Mathlib.Omega.{arith}
+use Rattle.grammar.specs.Trees.{tests}
+use Rattle.tree.proofs.node_count.Goals as goal
+
+pub get16-requires : goal.get16-requires
+get16-requires c = let k = (tests _ c.requires).head in omega (arith, k.long)
