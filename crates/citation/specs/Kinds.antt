@@ -3,7 +3,7 @@ use Rattle.std.specs.Prelude.{get_or, ◌≡◌, refl, ℕ, List, [], ◌∷◌,
 use Rattle.std.proofs.Common.{ap}
 use mathlib.Mathlib.Logic.Function.Defs.{Injective, LeftInverse, LeftInverse-Injective}
 use Rattle.refusal.specs.Refusals.{number_back}
-use Rattle.refusal.specs.Result.{Result, ok, refuse, said_injective}
+use Rattle.refusal.specs.Result.{Result, ok, refuse, saying, said_injective}
 use Rattle.text.specs.Quoted.{ascii}
 use Rattle.text.specs.Bytes.{begins, has}
 use Rattle.text.specs.Digits.{number_up_to}
@@ -83,4 +83,4 @@ kind_said (Refused why) = refuse why
 
 -- what is said determines the answer
 pub kind_said_injective : Injective kind_said
-kind_said_injective = said_injective Known Refused kind_said λ a. elim a [ Known k ↦ refl | Refused why ↦ ap Refused (number_back why) ]
+kind_said_injective = said_injective Known Refused kind_said λ a. elim a as (λ k. saying Known Refused (kind_said k) ≡ k) [ Known k ↦ refl | Refused why ↦ ap Refused (number_back why) ]

@@ -1,9 +1,9 @@
 -- The bounds of a Paket citation (docs/SEMANTICS.md, 'Package bounds'). Assumes nothing.
-use Rattle.std.specs.Prelude.{refl, ℕ, ◌+◌, List, [], ◌∷◌, true, false, cond, ◌&&◌, length, take, drop, ltb, eqb}
+use Rattle.std.specs.Prelude.{◌≡◌, refl, ℕ, ◌+◌, List, [], ◌∷◌, true, false, cond, ◌&&◌, length, take, drop, ltb, eqb}
 use Rattle.std.proofs.Common.{ap}
 use mathlib.Mathlib.Logic.Function.Defs.{Injective}
 use Rattle.refusal.specs.Refusals.{number_back}
-use Rattle.refusal.specs.Result.{Result, ok, refuse, unless, said_injective}
+use Rattle.refusal.specs.Result.{Result, ok, refuse, unless, saying, said_injective}
 use Rattle.refusal.specs.declared.Refusal.TheVariants.{NotAPaket}
 use Rattle.text.specs.Quoted.{ascii}
 use Rattle.text.specs.Bytes.{same, place, has}
@@ -64,4 +64,4 @@ paket_said (Refused why) = refuse why
 
 -- what is said determines the answer
 pub paket_said_injective : Injective paket_said
-paket_said_injective = said_injective Read Refused paket_said λ a. elim a [ Read p ↦ refl | Refused why ↦ ap Refused (number_back why) ]
+paket_said_injective = said_injective Read Refused paket_said λ a. elim a as (λ k. saying Read Refused (paket_said k) ≡ k) [ Read p ↦ refl | Refused why ↦ ap Refused (number_back why) ]

@@ -1,9 +1,9 @@
 -- What `evaluate` and `is_registered` answer. Assumes nothing.
-use Rattle.std.specs.Prelude.{get_or, refl, ℕ, List, [], ◌∷◌, Bool, true, false}
+use Rattle.std.specs.Prelude.{◌≡◌, get_or, refl, ℕ, List, [], ◌∷◌, Bool, true, false}
 use Rattle.std.proofs.Common.{ap}
 use mathlib.Mathlib.Logic.Function.Defs.{Injective, LeftInverse, LeftInverse-Injective}
 use Rattle.refusal.specs.Refusals.{number_back}
-use Rattle.refusal.specs.Result.{Result, ok, refuse, said_injective}
+use Rattle.refusal.specs.Result.{Result, ok, refuse, saying, said_injective}
 use Rattle.utf8.specs.Limits.{text_limit, value_limit, admitted}
 use Rattle.citation.specs.declared.Truth.{Truth}
 use Rattle.citation.specs.declared.Truth.TheVariants.{False, Unknown, True}
@@ -58,7 +58,7 @@ verdict_said (verdicts.Refused why) = refuse why
 -- what is said determines the answer
 pub verdict-said-injective : Injective verdict_said
 verdict-said-injective =
-    said_injective verdicts.Verdict verdicts.Refused verdict_said λ a. elim a [ verdicts.Verdict v ↦ refl | verdicts.Refused why ↦ ap verdicts.Refused (number_back why) ]
+    said_injective verdicts.Verdict verdicts.Refused verdict_said λ a. elim a as (λ k. saying verdicts.Verdict verdicts.Refused (verdict_said k) ≡ k) [ verdicts.Verdict v ↦ refl | verdicts.Refused why ↦ ap verdicts.Refused (number_back why) ]
 
 -- the answer on a condition's text
 abbrev pub registered_answer : List ℕ → Result Bool
@@ -72,4 +72,4 @@ registered_said (registereds.Refused why) = refuse why
 -- what is said determines the answer
 pub registered-said-injective : Injective registered_said
 registered-said-injective =
-    said_injective registereds.Known registereds.Refused registered_said λ a. elim a [ registereds.Known b ↦ refl | registereds.Refused why ↦ ap registereds.Refused (number_back why) ]
+    said_injective registereds.Known registereds.Refused registered_said λ a. elim a as (λ k. saying registereds.Known registereds.Refused (registered_said k) ≡ k) [ registereds.Known b ↦ refl | registereds.Refused why ↦ ap registereds.Refused (number_back why) ]

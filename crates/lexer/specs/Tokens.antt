@@ -1,9 +1,9 @@
 -- What the lexer answers and writes: counts, kinds of tokens, places of citations. Assumes nothing.
-use Rattle.std.specs.Prelude.{ℕ, suc, pred, ◌+◌, ◌*◌, ◌/◌, ◌%◌, refl, cond, ◌&&◌, List, [], ◌∷◌, eqb, leb, ltb, length, take, drop}
+use Rattle.std.specs.Prelude.{◌≡◌, ℕ, suc, pred, ◌+◌, ◌*◌, ◌/◌, ◌%◌, refl, cond, ◌&&◌, List, [], ◌∷◌, eqb, leb, ltb, length, take, drop}
 use Rattle.std.proofs.Common.{ap}
 use mathlib.Mathlib.Logic.Function.Defs.{Injective}
 use Rattle.refusal.specs.Refusals.{number_back}
-use Rattle.refusal.specs.Result.{Result, ok, refuse, unless, then, said_injective}
+use Rattle.refusal.specs.Result.{Result, ok, refuse, unless, then, saying, said_injective}
 use Rattle.refusal.specs.declared.Refusal.TheVariants.{Empty, TooManyCitations, TooDeep}
 use Rattle.grammar.specs.Expr.{concat}
 use Rattle.grammar.specs.Lex.{Tok, cited, op, opening, closing, Part, bracket, sign, left, right, space, stray, lex, texts}
@@ -63,7 +63,7 @@ lexed_said (Refused why) = refuse why
 -- what is said determines the answer
 pub lexed_said_injective : Injective lexed_said
 lexed_said_injective =
-    said_injective (λ (x : ℕ × ℕ × ℕ). Tokens x.0 x.1 x.2) Refused lexed_said λ a. elim a [ Tokens n m b ↦ refl | Refused why ↦ ap Refused (number_back why) ]
+    said_injective (λ (x : ℕ × ℕ × ℕ). Tokens x.0 x.1 x.2) Refused lexed_said λ a. elim a as (λ k. saying (λ (x : ℕ × ℕ × ℕ). Tokens x.0 x.1 x.2) Refused (lexed_said k) ≡ k) [ Tokens n m b ↦ refl | Refused why ↦ ap Refused (number_back why) ]
 
 -- tokens that pass the tests before parsing: 6, 12, 13
 unfoldable pub limited : List Tok → Result (List Tok)

@@ -1,9 +1,9 @@
 -- What `report` says. Assumes nothing.
-use Rattle.std.specs.Prelude.{refl, ℕ}
+use Rattle.std.specs.Prelude.{◌≡◌, refl, ℕ}
 use Rattle.std.proofs.Common.{ap}
 use mathlib.Mathlib.Logic.Function.Defs.{Injective}
 use Rattle.refusal.specs.Refusals.{number_back}
-use Rattle.refusal.specs.Result.{Result, ok, refuse, said_injective}
+use Rattle.refusal.specs.Result.{Result, ok, refuse, saying, said_injective}
 use Rattle.line.specs.declared.ReportAnswer.{ReportAnswer}
 use Rattle.line.specs.declared.ReportAnswer.TheVariants.{Length, Refused}
 
@@ -14,4 +14,4 @@ report_said (Refused why) = refuse why
 
 -- what is said determines the answer
 pub report_said_injective : Injective report_said
-report_said_injective = said_injective Length Refused report_said λ a. elim a [ Length n ↦ refl | Refused why ↦ ap Refused (number_back why) ]
+report_said_injective = said_injective Length Refused report_said λ a. elim a as (λ k. saying Length Refused (report_said k) ≡ k) [ Length n ↦ refl | Refused why ↦ ap Refused (number_back why) ]

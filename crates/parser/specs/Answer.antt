@@ -1,9 +1,9 @@
 -- What `parse_tokens` answers and writes. Assumes nothing.
-use Rattle.std.specs.Prelude.{refl, cond, List, [], ◌∷◌, map, ℕ, suc, eqb}
+use Rattle.std.specs.Prelude.{◌≡◌, refl, cond, List, [], ◌∷◌, map, ℕ, suc, eqb}
 use Rattle.std.proofs.Common.{ap}
 use mathlib.Mathlib.Logic.Function.Defs.{Injective}
 use Rattle.refusal.specs.Refusals.{number_back}
-use Rattle.refusal.specs.Result.{Result, ok, refused, refuse, said_injective}
+use Rattle.refusal.specs.Result.{Result, ok, refused, refuse, saying, said_injective}
 use Rattle.grammar.specs.Expr.{Expr}
 use Rattle.grammar.specs.Parse.{parse}
 use Rattle.grammar.specs.Rows.{cite_kind, rows}
@@ -25,7 +25,7 @@ parsed_said (Refused why) = refuse why
 
 -- what is said determines the answer
 pub parsed_said_injective : Injective parsed_said
-parsed_said_injective = said_injective Rows Refused parsed_said λ a. elim a [ Rows n ↦ refl | Refused why ↦ ap Refused (number_back why) ]
+parsed_said_injective = said_injective Rows Refused parsed_said λ a. elim a as (λ k. saying Rows Refused (parsed_said k) ≡ k) [ Rows n ↦ refl | Refused why ↦ ap Refused (number_back why) ]
 
 -- the rows of what was parsed, as numbers; none of a refusal
 abbrev pub rows_in : Result Expr → List ℕ

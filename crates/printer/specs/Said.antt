@@ -1,9 +1,9 @@
 -- What `display` says. Assumes nothing.
-use Rattle.std.specs.Prelude.{refl, ℕ}
+use Rattle.std.specs.Prelude.{◌≡◌, refl, ℕ}
 use Rattle.std.proofs.Common.{ap}
 use mathlib.Mathlib.Logic.Function.Defs.{Injective}
 use Rattle.refusal.specs.Refusals.{number_back}
-use Rattle.refusal.specs.Result.{Result, ok, refuse, said_injective}
+use Rattle.refusal.specs.Result.{Result, ok, refuse, saying, said_injective}
 use Rattle.printer.specs.declared.Displayed.{Displayed}
 use Rattle.printer.specs.declared.Displayed.TheVariants.{Done, Refused}
 
@@ -14,4 +14,4 @@ display_said (Refused why) = refuse why
 
 -- what is said determines the answer
 pub display_said_injective : Injective display_said
-display_said_injective = said_injective Done Refused display_said λ a. elim a [ Done n ↦ refl | Refused why ↦ ap Refused (number_back why) ]
+display_said_injective = said_injective Done Refused display_said λ a. elim a as (λ k. saying Done Refused (display_said k) ≡ k) [ Done n ↦ refl | Refused why ↦ ap Refused (number_back why) ]

@@ -1,9 +1,9 @@
 -- The status words, the code of each (docs/FORMAT.md, 'Texts'), and which of them a receiver may check. Assumes nothing.
-use Rattle.std.specs.Prelude.{refl, ℕ, ◌-◌, Bool, true, false, cond, List, [], ◌∷◌, ◌++◌, length, get_or, replicate}
+use Rattle.std.specs.Prelude.{◌≡◌, refl, ℕ, ◌-◌, Bool, true, false, cond, List, [], ◌∷◌, ◌++◌, length, get_or, replicate}
 use mathlib.Mathlib.Logic.Function.Defs.{Injective, LeftInverse, LeftInverse-Injective}
 use Rattle.text.specs.Quoted.{ascii}
 use Rattle.text.specs.Bytes.{same}
-use Rattle.refusal.specs.Result.{Result, ok, refuse, said_injective}
+use Rattle.refusal.specs.Result.{Result, ok, refuse, saying, said_injective}
 use Rattle.refusal.specs.declared.Refusal.TheVariants.{NoStatusWord}
 use Rattle.status.specs.declared.StatusKind.{StatusKind}
 use Rattle.status.specs.declared.StatusKind.TheVariants.{Muss, Soll, Kann, X, M, S, K}
@@ -69,7 +69,7 @@ word_said NoWord = refuse NoStatusWord
 
 -- what is said determines the answer
 pub word-said_injective : Injective word_said
-word-said_injective = said_injective Is (λ _. NoWord) word_said λ a. elim a [ Is k ↦ refl | NoWord ↦ refl ]
+word-said_injective = said_injective Is (λ _. NoWord) word_said λ a. elim a as (λ k. saying Is (λ _. NoWord) (word_said k) ≡ k) [ Is k ↦ refl | NoWord ↦ refl ]
 
 -- a word of at most four bytes as a struct holds it: the bytes, then zeros, and their number
 abbrev pub word_held : List ℕ → Word

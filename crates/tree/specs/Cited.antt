@@ -1,10 +1,10 @@
 -- Where a citation's text stands in tree bytes. Assumes nothing.
-use Rattle.std.specs.Prelude.{refl, List, [], cond, ℕ, ◌+◌, ltb, length, get_or, take}
+use Rattle.std.specs.Prelude.{◌≡◌, refl, List, [], cond, ℕ, ◌+◌, ltb, length, get_or, take}
 use Rattle.std.proofs.Common.{ap}
 use mathlib.Mathlib.Logic.Function.Defs.{Injective}
 use Rattle.std.proofs.Math.Option.{Option, none, some}
 use Rattle.refusal.specs.Refusals.{number_back}
-use Rattle.refusal.specs.Result.{Result, ok, refuse, map_ok, said_injective}
+use Rattle.refusal.specs.Result.{Result, ok, refuse, map_ok, saying, said_injective}
 use Rattle.grammar.specs.Expr.{Expr, concat, citations, count}
 use Rattle.grammar.specs.Rows.{span}
 use Rattle.grammar.specs.Bytes.{texts_from, tree_of}
@@ -36,4 +36,4 @@ cited_told none = Absent
 
 -- what is said determines the answer
 pub cited_said_injective : Injective cited_said
-cited_said_injective = said_injective cited_told Refused cited_said λ a. elim a [ At start size ↦ refl | Absent ↦ refl | Refused why ↦ ap Refused (number_back why) ]
+cited_said_injective = said_injective cited_told Refused cited_said λ a. elim a as (λ k. saying cited_told Refused (cited_said k) ≡ k) [ At start size ↦ refl | Absent ↦ refl | Refused why ↦ ap Refused (number_back why) ]

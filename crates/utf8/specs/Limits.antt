@@ -1,9 +1,9 @@
 -- What is tested of every text and value before it is read: its length and its encoding (refusals 10 and 11). Assumes nothing.
-use Rattle.std.specs.Prelude.{ℕ, refl, List, length, leb}
+use Rattle.std.specs.Prelude.{◌≡◌, ℕ, refl, List, length, leb}
 use Rattle.std.proofs.Common.{ap}
 use mathlib.Mathlib.Logic.Function.Defs.{Injective}
 use Rattle.refusal.specs.Refusals.{number_back}
-use Rattle.refusal.specs.Result.{Result, ok, refuse, unless, said_injective}
+use Rattle.refusal.specs.Result.{Result, ok, refuse, unless, saying, said_injective}
 use Rattle.refusal.specs.declared.Refusal.TheVariants.{TooLong, NotUtf8}
 use Rattle.utf8.specs.Utf8.{is_utf8}
 use Rattle.utf8.specs.declared.Admitted.{Admitted}
@@ -28,4 +28,4 @@ admit_said (Refused why) = refuse why
 
 -- what is said determines the answer
 pub admit_said_injective : Injective admit_said
-admit_said_injective = said_injective (λ _. Fine) Refused admit_said λ a. elim a [ Fine ↦ refl | Refused why ↦ ap Refused (number_back why) ]
+admit_said_injective = said_injective (λ _. Fine) Refused admit_said λ a. elim a as (λ k. saying (λ _. Fine) Refused (admit_said k) ≡ k) [ Fine ↦ refl | Refused why ↦ ap Refused (number_back why) ]

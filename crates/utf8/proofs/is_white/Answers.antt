@@ -21,16 +21,16 @@ returns-in-8232-to-8233 c = sym (white_in 6 c.args.code (omega arith) (omega ari
 
 pub returns-in_default : goal.returns-in_default
 returns-in_default c = sym
-    (no_white c.args.code (inl (omega arith)) (inl (omega arith)) (inl (omega arith)) c.in_default-1.rest.0.1 c.in_default-1.rest.1)
+    (no_white c.args.code (inl (omega arith)) (inl (omega arith)) (inl (omega arith)) (λ e. omega arith) (λ e. omega arith))
 
 pub returns-in_default-2 : goal.returns-in_default-2
 returns-in_default-2 c = sym
-    (no_white c.args.code (inr (omega arith)) (inl (omega arith)) (inl (omega arith)) c.in_default-1.rest.0.1 c.in_default-1.rest.1)
+    (no_white c.args.code (inr (omega arith)) (inl (omega arith)) (inl (omega arith)) (λ e. omega arith) (λ e. omega arith))
 
 pub returns-in_default-3 : goal.returns-in_default-3
 returns-in_default-3 c = sym
-    (no_white c.args.code (inr (omega arith)) (inr (omega arith)) (inl (omega arith)) c.in_default-1.rest.0.1 c.in_default-1.rest.1)
+    (no_white c.args.code (inr (omega arith)) (inr (omega arith)) (inl (omega arith)) (λ e. omega arith) (λ e. omega arith))
 
 pub returns-in_default-4 : goal.returns-in_default-4
 returns-in_default-4 c = sym
-    (no_white c.args.code (inr (omega arith)) (inr (omega arith)) (inr (omega arith)) c.in_default-1.rest.0.1 c.in_default-1.rest.1)
+    (no_white c.args.code (inr (omega arith)) (inr (omega arith)) (inr (omega arith)) (λ e. omega arith) (λ e. omega arith))

@@ -6,4 +6,4 @@ pub returns-then-s-lt-LONG : goal.returns-then-s-lt-LONG
 returns-then-s-lt-LONG c = rw (lt-leb 64 (length c.args.s.now) c.if-s-lt-LONG.true)
 
 pub returns : goal.returns
-returns c = rw (le-leb 64 (length c.args.s.now) c.if-s-lt-LONG.false) c.all_Is_ascii.ensures
+returns c = rw (le-leb 64 (length c.args.s.now) c.if-s-lt-LONG.false) c.all_ascii.ensures
