@@ -20,14 +20,17 @@ mutual
 
   some_counts : (es : Exprs) → Two es → Wides es → 1 ≤ length (citations_of es)
   some_counts (more e es) h r = rw length-append (omega (arith, some_count e r.0))
+  some_counts none h r = elim h [ ]
 
 counts_pos : (e : Expr) (es : Exprs) → Two (e ◂ es) → Wides es → 1 ≤ length (citations_of es)
 unfolding citations
 counts_pos e (more f es) h r = rw length-append (omega (arith, some_count f r.0))
+counts_pos e none h r = elim h [ ]
 
 counts_two : (es : Exprs) → Two es → Wides es → 2 ≤ length (citations_of es)
 unfolding citations
 counts_two (more e es) h r = rw length-append (omega (arith, some_count e r.0, counts_pos e es h r.1))
+counts_two none h r = elim h [ ]
 
 module _ (most : ℕ) where
   -- a separator leaves the count of open parentheses as it is
@@ -53,6 +56,7 @@ module _ (most : ℕ) where
         rw (append_assoc (operand in_tokens e) (links in_tokens sep es) ts)
         (operand-shallow e r.0 n (omega (arith, counts_pos e es q r.1)) (links in_tokens sep es ++ ts)
         ∙ links_shallow sep k es r.1 n (omega (arith, some_count e r.0)) ts)
+    listed_shallow sep k none q r n h ts = elim q [ ]
 
     links_shallow : (sep : List Tok) → Level sep → (es : Exprs) → Wides es → (n : ℕ) → n + length (citations_of es) ≤ most + 1 → (ts : List Tok)
         → shallow most n (links in_tokens sep es ++ ts) ≡ shallow most n ts
@@ -136,6 +140,7 @@ spare (more e es) = 2
 spare_two : (e : Expr) (es : Exprs) → Two (e ◂ es) → spare es ≡ 2
 unfolding spare
 spare_two e (more f es) q = refl
+spare_two e none q = elim q [ ]
 
 cite_room : (t : List ℕ) → length (printed (cite t)) + 7 ≤ room (t ∷ [])
 unfolding room concat print
@@ -154,6 +159,7 @@ mutual
   listed_size sep k (more e es) q r =
       rw (length-append (operand in_bytes e) (links in_bytes sep es), room_append)
       (omega (arith, operand_size e r.0, links_size sep k es r.1, spare_two e es q))
+  listed_size sep k none q r = elim q [ ]
 
   links_size : (sep : List ℕ) → length sep ≤ 5 → (es : Exprs) → Wides es → length (links in_bytes sep es) + spare es ≤ room (citations_of es)
   links_size sep k none r = omega arith

@@ -94,6 +94,7 @@ appends_assoc (more e a) b c = rw (appends_assoc a b c)
 pub some_append : (a b : Exprs) → Some a → Some (a ⧺ b)
 unfolding ◌⧺◌
 some_append (more e a) b s = tt
+some_append none b s = elim s [ ]
 
 -- one operand after others
 pub some_more : (es : Exprs) (e : Expr) → Some (es ▸ e)
@@ -106,6 +107,8 @@ pub two_append : (a b : Exprs) → Some a → Some b → Two (a ⧺ b)
 unfolding ◌⧺◌
 two_append (more e none) (more f b) s s' = tt
 two_append (more e (more f a)) b s s' = tt
+two_append none b s s' = elim s [ ]
+two_append (more e none) none s s' = elim s' [ ]
 
 -- wide operands before wide ones
 pub wides_append : (a b : Exprs) → Wides a → Wides b → Wides (a ⧺ b)

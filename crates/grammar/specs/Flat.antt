@@ -63,6 +63,7 @@ mutual
 
   some_spliced : (es : Exprs) → Two es → Wides es → Some (spliced es)
   some_spliced (more e es) h r = some_append (operands (flat e)) (spliced es) (some_operands e r.0)
+  some_spliced none h r = elim h [ ]
 
 -- a flat Then keeps two operands or more
 pub two_spliced : (es : Exprs) → Two es → Wides es → Two (spliced es)
@@ -70,10 +71,14 @@ unfolding flat
 two_spliced (more e (more f es)) h r =
     two_append (operands (flat e)) (operands (flat f) ⧺ spliced es) (some_operands e r.0)
     (some_append (operands (flat f)) (spliced es) (some_operands f r.1.0))
+two_spliced none h r = elim h [ ]
+two_spliced (more e none) h r = elim h [ ]
 
 two_flats : (es : Exprs) → Two es → Two (flats es)
 unfolding flat
 two_flats (more e (more f es)) h = tt
+two_flats none h = elim h [ ]
+two_flats (more e none) h = elim h [ ]
 
 wide_operands : (e : Expr) → Wide e → Wides (operands e)
 unfolding operands
@@ -108,10 +113,12 @@ module _ {A : Type 0} (s : Style A) where
   listed_append : (sep : List A) (a b : Exprs) → Some a → listed s sep (a ⧺ b) ≡ listed s sep a ++ links s sep b
   unfolding listed ◌⧺◌
   listed_append sep (more e a) b h = rw (links_append sep a b) (sym (append_assoc (operand s e) (links s sep a) (links s sep b)))
+  listed_append sep none b h = elim h [ ]
 
   links_listed : (sep : List A) (a : Exprs) → Some a → links s sep a ≡ sep ++ listed s sep a
   unfolding links
   links_listed sep (more e a) h = refl
+  links_listed sep none h = elim h [ ]
 
   listed_operands : (e : Expr) → listed s s.gap (operands e) ≡ operand s e
   unfolding listed bracketed operands

@@ -130,6 +130,7 @@ Solid (c ∷ cs) = is_white c ≡ false
 lex_solid : (cs : List ℕ) → Solid cs → SomeTokens (lex cs)
 unfolding lex
 lex_solid (c ∷ cs) w = outer_some (part c) (inside [] cs) (lex cs) (inside_some [] cs) (lex_tokens cs) (part-not c w)
+lex_solid [] w = elim w [ ]
 
 -- what begins with a character that is no white space is no empty expression
 expression-not : (cs : List ℕ) → Solid cs → NotEmpty (expression cs)
@@ -138,6 +139,7 @@ expression-not cs w = go (lex cs) (lex_solid cs w)
   where
     go : (r : Result (List Tok)) → SomeTokens r → NotEmpty (then r tree)
     go (ok (t ∷ ts)) h = tree-not t ts
+    go (ok []) h = elim h [ ]
     go (refused k) h = h
 
 abbrev AllSolid : List (List ℕ) → Type 0
@@ -169,6 +171,7 @@ words_solid t (c ∷ cs) b =
 joined_solid : (w : List ℕ) (ws : List (List ℕ)) → Solid w → Solid (joined (w ∷ ws))
 unfolding joined
 joined_solid (c ∷ w) ws h = h
+joined_solid [] ws h = elim h [ ]
 
 stated_not : (k : StatusKind) (r : Result Expr) → NotEmpty r → NotEmpty (map_ok (stated k) r)
 unfolding map_ok

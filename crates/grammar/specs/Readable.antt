@@ -49,6 +49,7 @@ gather_readable : (es : Exprs) → Some es → Readables es → Readable (gather
 unfolding gather
 gather_readable (more e none) s r = r.0
 gather_readable (more e (more f es)) s r = (tt, r)
+gather_readable none s r = elim s [ ]
 
 join_more : (p : Op) (es : Exprs) (b : Expr) → Readable (join p es) → Readable b → Readable (join p (es ▸ b))
 unfolding ◌⧺◌

@@ -14,6 +14,8 @@ use Rattle.grammar.specs.Steps.{Ends, resume, settled}
 pub gather_two : (es : Exprs) → Two es → gather es ≡ Then es
 unfolding gather
 gather_two (more e (more f es)) h = refl
+gather_two none h = elim h [ ]
+gather_two (more e none) h = elim h [ ]
 
 -- what an operand gives to a run, gathered, is its flat tree
 gathered : (e : Expr) → Readable e → gather (operands (flat e)) ≡ flat e
@@ -58,6 +60,7 @@ chained : (o : Op) (e : Expr) (es : Exprs) → Two (e ◂ es) → Fresh o e → 
 unfolding grows flat ◌⧺◌
 chained o e (more f es) h n =
     ap (λ s. grows s o (flats es)) (grow_fresh (flat e) o (flat f) (fresh_flat o e n)) ∙ grows_own o (flat e ◂ flat f ◂ none) (flats es)
+chained o e none h n = elim h [ ]
 
 listed_none : (es : Exprs) → listed in_tokens [] es ≡ links in_tokens [] es
 unfolding listed
@@ -89,6 +92,7 @@ mutual
       (operand_read e r.0 (links in_tokens (op o ∷ []) es ++ ts) start none w
       ∙ links_read o es r.1 ts q start (operands (flat e)) (some_of_lem e r.0) w
       ∙ rw (gathered e r.0, chained o e es h n))
+  chain_read o none h n r ts q w = elim h [ ]
 
   links_read : (o : Op) (es : Exprs) → Readables es → (ts : List Tok) → Ends ts → (l : Left) (run : Exprs) → Some run → (w : Opens)
       → read (links in_tokens (op o ∷ []) es ++ ts) l run w ≡ resume ts (grows (value l run) o (flats es)) w

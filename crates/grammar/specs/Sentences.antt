@@ -86,6 +86,7 @@ operator_one_node o ts us fs (more e es) r k h n =
     ∙ links_end o us (e ◂ es) k start fs (run_some ts fs r)
     ∙ ap (λ s. ok (whole (grows s o es))) (grow_fresh (gather fs) o e n)
     ∙ ap (λ s. ok (whole s)) (grows_own o (gather fs ◂ e ◂ none) es)
+operator_one_node o ts us fs none r k h n = elim h [ ]
 
 -- brackets alone make no node
 pub brackets_make_none : (ts : List Tok) (e : Expr) → parse ts ≡ ok e → parse (group ts) ≡ ok e

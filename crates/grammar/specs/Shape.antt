@@ -45,6 +45,8 @@ tiles_rows (more e es) n rs =
 pub many_two : (es : Exprs) → Two es → 2 ≤ many es
 unfolding many
 many_two (more e (more f es)) h = omega arith
+many_two none h = elim h [ ]
+many_two (more e none) h = elim h [ ]
 
 node_ok : (k n m : ℕ) (es : Exprs) (rs : List Row) → k < 4 → Two es → row_ok n (row (suc k) (many es) (suc (length (rows_of m es)))) (rows_of m es ++ rs) ≡ true
 unfolding row_ok

@@ -34,6 +34,9 @@ settled (closing ∷ ts) h l (more e es) s top = refl
 settled (closing ∷ ts) h l (more e es) s (within l' run' w) = refl
 settled (cited t ∷ ts) h l run s w = absurd h
 settled (opening ∷ ts) h l run s w = absurd h
+settled [] h l none s w = elim s [ ]
+settled (op o ∷ ts) h l none s w = elim s [ ]
+settled (closing ∷ ts) h l none s w = elim s [ ]
 
 -- the open parentheses of the first inside those of the second
 unfoldable pub over : Opens → Opens → Opens

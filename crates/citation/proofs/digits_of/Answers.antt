@@ -1,3 +1,4 @@
+use Rattle.citation.specs.Kinds.{largest_number}
 use native.Mathlib.Omega.{arith}
 use Prim.Native.Nat.{◌-◌}
 use mathlib.Core.Path.{◌≡◌, refl, sym, ap, ◌∙◌}

@@ -1,3 +1,4 @@
+use Rattle.citation.specs.Kinds.{largest_number}
 use Prim.Native.Nat.{◌-◌, ◌≤◌, ◌<◌}
 use mathlib.Core.Path.{◌≡◌}
 use lib.ListN.{length, drop}

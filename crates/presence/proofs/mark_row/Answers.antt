@@ -1,3 +1,4 @@
+use Rattle.citation.specs.Kinds.{kind_of}
 use native.Mathlib.Omega.{arith}
 use mathlib.Core.Path.{sym, ap, ◌∙◌}
 use Rattle.tree.proofs.Walks.{leaf, walk_next}

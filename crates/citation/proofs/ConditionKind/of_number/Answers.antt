@@ -1,3 +1,4 @@
+use Rattle.citation.specs.Kinds.{kind_of_number}
 use native.Mathlib.Omega.{arith}
 use Rattle.utf8.proofs.Ranges.{inside_range, below_range, above_range}
 use Rattle.citation.proofs.ConditionKind.of_number.Goals as goal
