@@ -10,7 +10,7 @@ use Rattle.status.specs.Status.{code_of, code_injective}
 use Rattle.citation.specs.Truths.{truth_number, truth_number_injective}
 use Rattle.grammar.specs.Outcome.{answer_of, StatusSaid, word_alone, with_tree, parse_answer, status_answer}
 use Rattle.semantics.specs.Answers.{eval_answer, truth_answer, violations_answer}
-use Rattle.semantics.specs.Known.{eval_known, truth_known}
+use Rattle.semantics.proofs.Known.{eval_known, truth_known}
 use Rattle.ahb.specs.Numbers.{accepted_from, present_from, answer_number, ReadSaid, expression, status, said_number, read_number, presence_number, verdict_number}
 use Rattle.ahb.specs.Answers.{said_by, truth_written, read_answer, verdicts_answer}
 use Rattle.ahb.specs.Sizes.{Short, ShortStatus, CountFew, answer_among, parse-outcome, status_outcome_lem, violations-outcome}

@@ -7,17 +7,18 @@ use Rattle.refusal.specs.declared.Refusal.TheVariants.{NoRoom, NotATree}
 use Rattle.refusal.specs.Known.{Among, unless-among, known_among, map-among, then-among}
 use Rattle.utf8.specs.Limits.{value_limit, admitted}
 use Rattle.grammar.specs.Expr.{Expr}
-use Rattle.grammar.specs.Reading.{citation_limit, Fits, reading, reading_given}
+use Rattle.grammar.specs.Reading.{citation_limit, Fits, reading}
+use Rattle.grammar.proofs.Reading.{reading_given}
 use Rattle.grammar.specs.Status.{Stated, alone, stated, status_reading}
-use Rattle.grammar.specs.StatusLaws.{status_states}
+use Rattle.grammar.proofs.StatusLaws.{status_states}
 use Rattle.grammar.specs.Bytes.{bytes_of, is_tree, tree_at, tree_of}
-use Rattle.grammar.specs.Theorems.{bytes-length, few_bytes}
+use Rattle.grammar.proofs.Theorems.{bytes-length, few_bytes}
 use Rattle.grammar.specs.Outcome.{Written, Outcome, answer_of, StatusSaid, word_alone, with_tree, stated_bytes, parse_answer, status_answer}
-use Rattle.grammar.specs.Known.{admitted-among, reading_known, status_known, tree_of_known}
+use Rattle.grammar.proofs.Known.{admitted-among, reading_known, status_known, tree_of_known}
 use Rattle.semantics.specs.Rules.{is_false}
 use Rattle.semantics.specs.Truth.{counts_on, truth}
 use Rattle.semantics.specs.Violations.{violated, violations_with, violations}
-use Rattle.semantics.specs.Sizes.{violated_few}
+use Rattle.semantics.proofs.Sizes.{violated_few}
 use Rattle.semantics.specs.Answers.{numbered, violations_answer}
 use Rattle.tree.proofs.Walks.{root}
 use Rattle.ahb.specs.Numbers.{code_step}

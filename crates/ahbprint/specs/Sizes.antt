@@ -3,9 +3,9 @@ use Rattle.std.specs.Prelude.{List, ℕ, ◌≤◌, length}
 use Rattle.grammar.specs.Print.{printed}
 use Rattle.grammar.specs.Bytes.{tree_of}
 use Rattle.grammar.specs.Outcome.{answer_of, with_length, display_answer}
-use Rattle.grammar.specs.Theorems.{print_short}
+use Rattle.grammar.proofs.Theorems.{print_short}
 use Rattle.refusal.specs.Known.{Among, known_among, map-among}
-use Rattle.grammar.specs.Known.{tree_of_known}
+use Rattle.grammar.proofs.Known.{tree_of_known}
 use Rattle.ahb.specs.Sizes.{answer_among, tree_fits}
 use Rattle.grammar.specs.Reading.{print_limit}
 

@@ -1,5 +1,5 @@
 use native.Mathlib.Omega.{arith}
-use Rattle.grammar.specs.Trees.{tests}
+use Rattle.grammar.proofs.Trees.{tests}
 use borrow.Author.Rules.{rules}
 use Rattle.tree.proofs.number_at.Goals as goal
 
