@@ -1,5 +1,5 @@
 -- The bounds of a Paket citation (docs/SEMANTICS.md, 'Package bounds'). Assumes nothing.
-use Rattle.std.specs.Prelude.{◌≡◌, refl, ℕ, ◌+◌, List, [], ◌∷◌, true, false, cond, ◌&&◌, length, take, drop, ltb, eqb}
+use Rattle.std.specs.Prelude.{◌≡◌, refl, ℕ, ◌+◌, List, true, false, cond, ◌&&◌, length, take, drop, ltb, eqb}
 use Rattle.std.proofs.Common.{ap}
 use mathlib.Mathlib.Logic.Function.Defs.{Injective}
 use Rattle.refusal.specs.Refusals.{number_back}

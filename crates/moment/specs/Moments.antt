@@ -1,5 +1,5 @@
 -- The moment that a value gives, and the day boundaries (docs/SEMANTICS.md, 'Day boundaries and summer time'). Assumes nothing.
-use Rattle.std.specs.Prelude.{ℕ, ◌+◌, ◌-◌, List, [], ◌∷◌, Bool, false, cond, ◌&&◌, length, take, drop, leb}
+use Rattle.std.specs.Prelude.{ℕ, ◌+◌, ◌-◌, List, Bool, false, cond, ◌&&◌, length, take, drop, leb}
 use Rattle.text.specs.Quoted.{ascii}
 use Rattle.text.specs.Bytes.{begins, ends, part}
 use Rattle.text.specs.Digits.{digits_up_to, number_up_to}

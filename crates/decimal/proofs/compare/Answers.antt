@@ -3,7 +3,6 @@ use mathlib.Core.Path.{◌≡◌, sym, ap, ◌∙◌}
 use mathlib.Core.Bool.{Bool, true, false}
 use mathlib.Core.List.{List, ◌++◌}
 use lib.ListN.{length}
-use borrow.Author.Tests.{not-true, not-false}
 use Prim.Native.Nat.{◌*◌, ◌^◌}
 use mathlib.Core.Path.{ap₂}
 use lib.Dec.{eqb}
@@ -17,12 +16,12 @@ use Rattle.decimal.proofs.compare.Goals as goal
 pub returns-then-not-is_number : goal.returns-then-not-is_number
 unfolding against
 returns-then-not-is_number c = let s = c.args.s.now in
-    let e : is_number s ≡ false = sym c.is_number.ensures ∙ not-true _ c.if-not-is_number.true-raw in
+    let e : is_number s ≡ false = sym c.is_number.ensures ∙ c.if-not-is_number.true in
     rw e
 
 pub size_order-o-requires : goal.size_order-o-requires
 size_order-o-requires c = let s = c.args.s.now in
-    let e : is_number s ≡ true = sym c.is_number.ensures ∙ not-false _ c.if-not-is_number.false-raw in
+    let e : is_number s ≡ true = sym c.is_number.ensures ∙ c.if-not-is_number.false in
     let d = number_digits s e in
     (ap all_digits c.integer.ensures ∙ d.0, ap all_digits c.fraction.ensures ∙ d.1)
 
@@ -30,7 +29,7 @@ pub returns : goal.returns
 unfolding against
 returns c = let a = c.args in
     let s = a.s.now in
-    let e : is_number s ≡ true = sym c.is_number.ensures ∙ not-false _ c.if-not-is_number.false-raw in
+    let e : is_number s ≡ true = sym c.is_number.ensures ∙ c.if-not-is_number.false in
     let o = c.size_order-o.ensures ∙ ap₂ (λ (w f : List ℕ). orderℕ (nat_of (w ++ f)) (a.size * 10 ^ length f)) c.integer.ensures c.fraction.ensures in
     c.by_sign.ensures
     ∙ ap₂ (λ (o : Order) (m : Bool). by_sign o m a.below (eqb a.size 0)) o c.is_negative-minus.ensures

@@ -1,7 +1,5 @@
-use Prim.Native.Nat.{◌-◌}
 use native.Mathlib.Omega.{arith}
 use mathlib.Core.Path.{refl, sym, ◌∙◌}
-use borrow.Author.Tests.{not-true, not-false}
 use lib.ListN.{get_or, drop, length-drop}
 use Rattle.text.proofs.Laws.{empty}
 use Rattle.formats.specs.Rules.{digit_groups}
@@ -17,16 +15,16 @@ loop-k-init c = (refl, omega arith, omega arith)
 
 pub returns-then-not-group_at : goal.returns-then-not-group_at
 returns-then-not-group_at c = let a = c.args in
-    groups_fail a.widths.now a.value.now c.loop-k.k c.loop-k.at (omega arith) (sym c.group_at.ensures ∙ not-true _ c.if-not-group_at.true-raw) ∙ c.loop-k.invariant.0
+    groups_fail a.widths.now a.value.now c.loop-k.k c.loop-k.at (omega arith) (sym c.group_at.ensures ∙ c.if-not-group_at.true) ∙ c.loop-k.invariant.0
 
 pub overflow_add-at : goal.overflow_add-at
 overflow_add-at c = let a = c.args in
-    let g = sym c.group_at.ensures ∙ not-false _ c.if-not-group_at.false-raw in
+    let g = sym c.group_at.ensures ∙ c.if-not-group_at.false in
     omega (arith, group-room (get_or a.widths.now c.loop-k.k 0) (drop c.loop-k.at a.value.now) g, length-drop c.loop-k.at a.value.now)
 
 pub overflow_add-at-in-loop-k : goal.overflow_add-at-in-loop-k
 overflow_add-at-in-loop-k c = let a = c.args in
-    let g = sym c.group_at.ensures ∙ not-false _ c.if-not-group_at.false-raw in
+    let g = sym c.group_at.ensures ∙ c.if-not-group_at.false in
     omega (arith, group-room (get_or a.widths.now c.loop-k.k 0) (drop c.loop-k.at a.value.now) g, length-drop c.loop-k.at a.value.now)
 
 pub loop-k-smaller : goal.loop-k-smaller
@@ -34,7 +32,7 @@ loop-k-smaller c = omega arith
 
 pub loop-k-preserved : goal.loop-k-preserved
 loop-k-preserved c = let a = c.args in
-    let g = sym c.group_at.ensures ∙ not-false _ c.if-not-group_at.false-raw in (
+    let g = sym c.group_at.ensures ∙ c.if-not-group_at.false in (
       groups_next a.widths.now a.value.now c.loop-k.k c.loop-k.at (omega arith) g ∙ c.loop-k.invariant.0,
       omega (arith, group-room (get_or a.widths.now c.loop-k.k 0) (drop c.loop-k.at a.value.now) g, length-drop c.loop-k.at a.value.now),
       omega arith,

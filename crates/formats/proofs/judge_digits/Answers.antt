@@ -1,3 +1,4 @@
+use Rattle.std.proofs.Common.{rules}
 use Rattle.formats.specs.Table.{digit_rules, shape_rules, time_rules, judged_in, rule_at, id_of}
 use mathlib.Core.List.{◌++◌}
 use Rattle.formats.proofs.Ids.{by_id, by_others}
@@ -41,4 +42,4 @@ returns-in-962 c = by_id (digit_rules ++ (shape_rules ++ time_rules)) c.args.val
 
 pub returns-in_default : goal.returns-in_default
 unfolding judged_in rule_at id_of
-returns-in_default c = by_others digit_rules (shape_rules ++ time_rules) c.args.id c.args.value.now c.in_default.rest c.judge_shapes.ensures
+returns-in_default c = by_others digit_rules (shape_rules ++ time_rules) c.args.id c.args.value.now (search rules) c.judge_shapes.ensures

@@ -4,7 +4,6 @@ use mathlib.Core.Option.{Option}
 use Rattle.formats.specs.Rules.{Rule}
 use Rattle.formats.specs.Table.{rules, id_of, verdict, judged_by, judged_in}
 use Rattle.formats.proofs.Ids.{by_text}
-use borrow.Author.Rules.{rules}
 use Rattle.formats.proofs.verdict_on.Goals as goal
 
 pub returns : goal.returns
