@@ -13,7 +13,7 @@ use Rattle.refusal.specs.Result.{ok, refuse}
 use Rattle.refusal.specs.declared.Refusal.TheVariants.{NotATree}
 use Rattle.grammar.specs.Expr.{And, Or, Xor, Expr, Exprs, cite, Then, join, none, more, ◌◂◌, ◌⧺◌, citations, citations_of, count, citations_append, append_none, appends_assoc}
 use Rattle.grammar.specs.Reading.{Fits}
-use Rattle.grammar.specs.Rows.{op_kind, many, rows, span, spans, firsts, children, build, firsts-all, rows_span, built}
+use Rattle.grammar.specs.Rows.{op_kind, many, span, spans, firsts, children, build, firsts-all, rows_span, built}
 use Rattle.grammar.specs.Bytes.{head_size, nodes, cites, cites_at, texts_at, rows_from, rows_in, texts_in, is_tree, forest_at, tree_at, tree_of}
 use Rattle.grammar.specs.Shape.{span_some}
 use Rattle.grammar.specs.Pack.{rows_length}

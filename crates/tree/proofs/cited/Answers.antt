@@ -7,17 +7,8 @@ use Rattle.tree.proofs.cited.Goals as goal
 pub returns-then-not-is_tree : goal.returns-then-not-is_tree
 returns-then-not-is_tree c = cited-refused _ _ (sym c.is_tree.ensures ∙ not-true _ c.if-not-is_tree.true-raw)
 
-pub cite_count-requires : goal.cite_count-requires
-cite_count-requires c = sym c.is_tree.ensures ∙ not-false _ c.if-not-is_tree.false-raw
-
 pub returns-then-cite_count-number : goal.returns-then-cite_count-number
 returns-then-cite_count-number c = cited-absent _ _ (sym c.is_tree.ensures ∙ not-false _ c.if-not-is_tree.false-raw) (omega (arith, c.cite_count.ensures.0))
-
-pub text_start-start-requires : goal.text_start-start-requires
-text_start-start-requires c = (sym c.is_tree.ensures ∙ not-false _ c.if-not-is_tree.false-raw, omega (arith, c.cite_count.ensures.0))
-
-pub text_size-size-requires : goal.text_size-size-requires
-text_size-size-requires c = (sym c.is_tree.ensures ∙ not-false _ c.if-not-is_tree.false-raw, omega (arith, c.cite_count.ensures.0))
 
 pub returns : goal.returns
 returns c = cited_at _ _ _ _ (sym c.is_tree.ensures ∙ not-false _ c.if-not-is_tree.false-raw) (omega (arith, c.cite_count.ensures.0)) c.text_start-start.ensures.0 c.text_size-size.ensures.0

@@ -6,9 +6,6 @@ use Rattle.tree.proofs.Plain.{plain_part}
 use Rattle.tree.proofs.Steps as steps
 use Rattle.tree.proofs.cites_ok.Goals as goal
 
-pub loop-left-init : goal.loop-left-init
-loop-left-init c = (omega arith, omega arith, refl, omega arith)
-
 pub returns-then-base-o : goal.returns-then-base-o
 returns-then-base-o c = steps.cite_off _ _ _ _ (omega arith) (λ e. omega (arith, c.get16-o.ensures.0, c.if-base-o.true, e, c.requires.0)) ∙ c.loop-left.invariant.2
 

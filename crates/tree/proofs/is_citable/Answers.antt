@@ -1,5 +1,5 @@
 use native.Mathlib.Omega.{arith}
-use Prim.Native.Nat.{◌+◌, ◌-◌}
+use Prim.Native.Nat.{◌+◌}
 use mathlib.Core.Path.{◌≡◌, sym, ap, ◌∙◌}
 use mathlib.Core.Bool.{Bool}
 use mathlib.Core.List.{[]}
@@ -18,9 +18,6 @@ returns-then-code-eq93 c = texts.citable_closing _ _ _ _ (sym c.step_at-here.ens
 
 pub overflow_add-at : goal.overflow_add-at
 overflow_add-at c = let d = char_at _ _ _ _ c.loop-at.invariant.1 (sym c.step_at-here.ensures ∙ c.in-Char.is) in omega (arith, d.2, d.3)
-
-pub loop-at-smaller : goal.loop-at-smaller
-loop-at-smaller c = let d = char_at _ _ _ _ c.loop-at.invariant.1 (sym c.step_at-here.ensures ∙ c.in-Char.is) in omega (arith, d.2, d.3)
 
 pub loop-at-preserved : goal.loop-at-preserved
 loop-at-preserved c = let s = c.args.text.now in

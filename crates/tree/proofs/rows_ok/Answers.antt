@@ -1,13 +1,10 @@
 use native.Mathlib.Omega.{arith}
 use Prim.Native.Nat.{ℕ, ◌+◌, ◌-◌}
-use mathlib.Core.Path.{refl, sym, ap, ◌∙◌}
+use mathlib.Core.Path.{sym, ap, ◌∙◌}
 use borrow.Author.Tests.{not-true, not-false}
 use Rattle.grammar.specs.Bytes.{row_size, rows_from, rows_ok}
 use Rattle.tree.proofs.Steps as steps
 use Rattle.tree.proofs.rows_ok.Goals as goal
-
-pub loop-left-init : goal.loop-left-init
-loop-left-init c = (omega arith, omega arith, refl)
 
 pub returns-then-not-row_ok : goal.returns-then-not-row_ok
 returns-then-not-row_ok c = steps.ok_fail _ 0 0 _ _ _ _ (omega arith) (sym c.row_ok.ensures ∙ not-true _ c.if-not-row_ok.true-raw) ∙ c.loop-left.invariant.2

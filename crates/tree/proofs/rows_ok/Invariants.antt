@@ -1,4 +1,4 @@
-use Prim.Native.Nat.{◌+◌, ◌-◌, ◌*◌, ◌≤◌}
+use Prim.Native.Nat.{◌+◌, ◌*◌, ◌≤◌}
 use mathlib.Core.Path.{◌≡◌}
 use Rattle.grammar.specs.Bytes.{head_size, row_size, rows_from, rows_ok}
 use Rattle.tree.proofs.rows_ok.Given as goal

@@ -1,10 +1,7 @@
 use native.Mathlib.Omega.{arith}
-use mathlib.Core.Path.{refl, sym, ◌∙◌}
+use mathlib.Core.Path.{sym, ◌∙◌}
 use Rattle.tree.proofs.Steps as steps
 use Rattle.tree.proofs.tiles_at.Goals as goal
-
-pub loop-kids-init : goal.loop-kids-init
-loop-kids-init c = (omega arith, omega arith, refl)
 
 pub returns-then-size-eq0 : goal.returns-then-size-eq0
 returns-then-size-eq0 c = steps.tiles_dry _ _ _ (omega arith) (omega arith) ∙ c.loop-kids.invariant.2
