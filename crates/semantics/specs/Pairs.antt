@@ -65,7 +65,7 @@ at p h v =
     let f = and_both (p False) (p Unknown && (p True && p Neutral)) h in
     let u = and_both (p Unknown) (p True && p Neutral) f.1 in
     let t = and_both (p True) (p Neutral) u.1 in
-    elim v [ False ↦ f.0 | Unknown ↦ u.0 | True ↦ t.0 | Neutral ↦ t.1 ]
+    elim v as (λ k. p k ≡ true) [ False ↦ f.0 | Unknown ↦ u.0 | True ↦ t.0 | Neutral ↦ t.1 ]
 
 -- what holds of each two holds of these
 pub at2 : (p : Truth → Truth → Bool) → each2 p ≡ true → (a b : Truth) → p a b ≡ true

@@ -204,10 +204,12 @@ module _ (value : List ℕ) where
   and_first : (n : ℕ) (es : Exprs) → Filled n es → is_neutral (and_rule (truths_with (counts_on value) n es)) ≡ false
   unfolding truth_with
   and_first n (more e es) h = and_filled (truth_with (counts_on value) n e) (truths_with (counts_on value) (n + count e) es) h
+  and_first n none h = elim h [ ]
 
   or_first : (n : ℕ) (es : Exprs) → Filled n es → is_neutral (or_rule (truths_with (counts_on value) n es)) ≡ false
   unfolding truth_with
   or_first n (more e es) h = or_filled (truth_with (counts_on value) n e) (truths_with (counts_on value) (n + count e) es) h
+  or_first n none h = elim h [ ]
 
   mutual
     unfolding truth_with
