@@ -1,4 +1,3 @@
-use Prim.Native.Nat.{◌-◌}
 use native.Mathlib.Omega.{arith}
 use Rattle.packages.proofs.Laws.{going_begin, going_room, going_next, going_end}
 use Rattle.packages.proofs.put_rows.Goals as goal
