@@ -6,7 +6,7 @@ use native.Mathlib.Numerals.{add-one}
 use native.Mathlib.Omega.{arith}
 use lib.ListN.{length, get_or, take, set, length-append, length-set}
 use lib.Seq.{take-take, take_at, take-suc-set, take-set-le, length-take-le, get_or-take, get_or_at}
-use Rattle.grammar.specs.Expr.{Expr, Exprs, cite, none, more, ◌◂◌, ◌▸◌, citations_of, count}
+use Rattle.grammar.specs.Expr.{Expr, Exprs, cite, none, ◌◂◌, ◌▸◌, citations_of, count}
 use Rattle.grammar.specs.Rows.{span, spans, children}
 use Rattle.parser.specs.Packed.{pack, node_row, postorder, postorders}
 use Rattle.parser.specs.States.{Held, Front}

@@ -7,7 +7,7 @@ use native.Mathlib.Omega.{arith}
 use lib.ListN.{length, length-append}
 use Rattle.grammar.specs.Expr.{Op, And, Or, Xor, Expr, Exprs, cite, Then, join, none, more, ◌◂◌, ◌⧺◌, ◌▸◌, citations, citations_of, count, citations_append}
 use Rattle.grammar.specs.Rows.{Row, row, cite_kind, then_kind, op_kind, many, node, rows, rows_of, span, spans, children, rows_spans}
-use Rattle.parser.specs.Packed.{pack, packed, kind_of_root, operands, node_row, postorder, postorders}
+use Rattle.parser.specs.Packed.{pack, packed, kind_of_root, node_row, postorder, postorders}
 
 -- a row's parts
 

@@ -80,6 +80,11 @@ unfolding read
 missing [] q l none w d = refl
 missing (op o ∷ ts) q l none w d = refl
 missing (closing ∷ ts) q l none w d = refl
+missing [] q l (more _ _) w d = elim d [ ]
+missing (cited _ ∷ ts) q l run w d = elim q [ ]
+missing (op o ∷ ts) q l (more _ _) w d = elim d [ ]
+missing (opening ∷ ts) q l run w d = elim q [ ]
+missing (closing ∷ ts) q l (more _ _) w d = elim d [ ]
 
 pub atom_missing : (ts : List Tok) → Ends ts → NoAtom ts MissingOperand
 atom_missing ts q = record { goes = missing ts q }

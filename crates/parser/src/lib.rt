@@ -194,7 +194,7 @@ fn past_token(q: Pos) -> Pos
 }
 
 // A citation, or a group in parentheses.
-#[cycle(parse_atom_parse_chain_parse_juxtaposition)]
+#[cycle(parse)]
 fn parse_atom(toks: &[u8], work: &mut [u64], p: Pos) -> Step
     requires { Ready toks.now (length work.old) p }
     ensures { AtomSays toks.now p work.old work.new result }
@@ -232,7 +232,7 @@ fn parse_atom(toks: &[u8], work: &mut [u64], p: Pos) -> Step
 }
 
 // A run of atoms: two or more are one Then.
-#[cycle(parse_atom_parse_chain_parse_juxtaposition)]
+#[cycle(parse)]
 fn parse_juxtaposition(toks: &[u8], work: &mut [u64], p: Pos) -> Step
     requires { Ready toks.now (length work.old) p }
     ensures { JuxSays toks.now p work.old work.new result }
@@ -269,7 +269,7 @@ fn parse_juxtaposition(toks: &[u8], work: &mut [u64], p: Pos) -> Step
 }
 
 // Juxtapositions joined by operators, from left to right.
-#[cycle(parse_atom_parse_chain_parse_juxtaposition)]
+#[cycle(parse)]
 fn parse_chain(toks: &[u8], work: &mut [u64], p: Pos) -> Step
     requires { Ready toks.now (length work.old) p }
     ensures { ChainSays toks.now p work.old work.new result }

@@ -1,12 +1,8 @@
 use native.Mathlib.Omega.{arith}
-use Prim.Native.Nat.{◌-◌}
-use mathlib.Core.Path.{refl, ◌∙◌}
+use mathlib.Core.Path.{◌∙◌}
 use Rattle.grammar.specs.Lex.{cite_end}
 use Rattle.lexer.proofs.Runs.{find_on, find_here, find_out}
 use Rattle.lexer.proofs.find_end.Goals as goal
-
-pub loop-i-init : goal.loop-i-init
-loop-i-init c = refl
 
 pub returns-then-text-i-eq93 : goal.returns-then-text-i-eq93
 returns-then-text-i-eq93 c = find_here cite_end c.args.text.now c.loop-i.i (omega arith) c.if-text-i-eq93.true ∙ c.loop-i.invariant

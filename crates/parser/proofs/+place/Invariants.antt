@@ -1,4 +1,3 @@
-use Prim.Native.Nat.{◌-◌}
 use Rattle.parser.proofs.+place.Given as goal
 
 abbrev pub decreases-place : goal.decreases-place

@@ -2,7 +2,7 @@ use mathlib.Core.Path.{◌≡◌}
 use lib.ListN.{length}
 use Rattle.parser.specs.States.{Running, Turn, Front}
 use Prim.Native.Nat.{◌+◌, ◌*◌, ◌-◌}
-use Rattle.parser.proofs.+parse_atom_parse_chain_parse_juxtaposition.Given as goal
+use Rattle.parser.proofs.+parse.Given as goal
 
 abbrev pub decreases-parse_atom : goal.decreases-parse_atom
 decreases-parse_atom l = 4 * (length l.toks.now - l.p.at)
