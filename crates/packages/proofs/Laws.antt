@@ -184,25 +184,31 @@ unfolding pakete_answer map_ok pakete
 answer_is b h = let r = root b h in rw (r.is, r.cited)
 
 -- 15
-pub pakete_refused : (b old : List ℕ) → is_tree b ≡ false → (refuse NotATree ≡ answer_of (pakete_answer b) (length old)) × (old ≡ written_of (pakete_answer b) old)
+pub pakete_refused : (b old : List ℕ) → is_tree b ≡ false → record { result_value : refuse NotATree ≡ answer_of (pakete_answer b) (length old); out_after : old ≡ written_of (pakete_answer b) old }
 unfolding pakete_answer map_ok answer_of written_of then
-pakete_refused b old h = (rw (no-tree b h), rw (no-tree b h))
+pakete_refused b old h = record { result_value = rw (no-tree b h); out_after = rw (no-tree b h) }
 
 -- 14
 pub pakete_short : (b old : List ℕ) (rows : ℕ) → is_tree b ≡ true → rows ≡ length (rows_of 0 (texts_in b)) → length old < paket_size * rows
-    → (refuse NoRoom ≡ answer_of (pakete_answer b) (length old)) × (old ≡ written_of (pakete_answer b) old)
+    → record { result_value : refuse NoRoom ≡ answer_of (pakete_answer b) (length old); out_after : old ≡ written_of (pakete_answer b) old }
 pakete_short b old rows h e l =
     let w = rowed (rows_of 0 (texts_in b)) in
     let short : length old < length (concat (rows_of 0 (texts_in b))) = omega (arith, l, room_is b rows e) in
-    (sym (ap (λ x. answer_of x (length old)) (answer_is b h) ∙ answer_short w (length old) short), sym (ap (λ x. written_of x old) (answer_is b h) ∙ written_short w old short))
+    record {
+      result_value = sym (ap (λ x. answer_of x (length old)) (answer_is b h) ∙ answer_short w (length old) short);
+      out_after = sym (ap (λ x. written_of x old) (answer_is b h) ∙ written_short w old short);
+    }
 
 -- the rows
 pub pakete_done : (b old new : List ℕ) (rows q : ℕ) → is_tree b ≡ true → rows ≡ length (rows_of 0 (texts_in b)) → paket_size * rows ≤ length old
-    → Appended (concat (rows_of 0 (texts_in b))) 0 old new q → (ok rows ≡ answer_of (pakete_answer b) (length old)) × (new ≡ written_of (pakete_answer b) old)
+    → Appended (concat (rows_of 0 (texts_in b))) 0 old new q → record { result_value : ok rows ≡ answer_of (pakete_answer b) (length old); out_after : new ≡ written_of (pakete_answer b) old }
 pakete_done b old new rows q h e l a =
     let w = rowed (rows_of 0 (texts_in b)) in
     let room : length (concat (rows_of 0 (texts_in b))) ≤ length old = omega (arith, l, room_is b rows e) in
-    (ap ok e ∙ sym (ap (λ x. answer_of x (length old)) (answer_is b h) ∙ answer_fits w (length old) room), whole a ∙ sym (ap (λ x. written_of x old) (answer_is b h) ∙ written_fits w old room))
+    record {
+      result_value = ap ok e ∙ sym (ap (λ x. answer_of x (length old)) (answer_is b h) ∙ answer_fits w (length old) room);
+      out_after = whole a ∙ sym (ap (λ x. written_of x old) (answer_is b h) ∙ written_fits w old room);
+    }
 
 -- no Paket: no row
 pub row_none : (n : ℕ) (t s : List ℕ) (k : ConditionKind) (x : Bool) → x ≡ false → x ≡ is_paket k → k ≡ kind_of s → s ≡ t → [] ≡ row_of n t

@@ -308,9 +308,9 @@ module _ (b value : List ℕ) where
   unfolding truth_answer then
   truth-no-tree h = rw (no-tree b h)
 
-  pub violations-no-tree : (old : List ℕ) → is_tree b ≡ false → (refuse NotATree ≡ answer_of (violations_answer b value) (length old)) × (old ≡ written_of (violations_answer b value) old)
+  pub violations-no-tree : (old : List ℕ) → is_tree b ≡ false → record { result_value : refuse NotATree ≡ answer_of (violations_answer b value) (length old); out_after : old ≡ written_of (violations_answer b value) old }
   unfolding violations_answer answer_of written_of then
-  violations-no-tree old h = (rw (no-tree b h), rw (no-tree b h))
+  violations-no-tree old h = record { result_value = rw (no-tree b h); out_after = rw (no-tree b h) }
 
   module _ (tree : is_tree b ≡ true) where
     -- 10 and 11
@@ -332,9 +332,9 @@ module _ (b value : List ℕ) where
     answer_is a = rw (root b tree).is (a (ok (numbered (violations value (tree_at b 0)))))
 
     -- 10 and 11
-    pub violations_turned : (old : List ℕ) (k : ℕ) → ((r : Outcome ℕ) → admitted value_limit value r ≡ refused k) → (refused k ≡ answer_of (violations_answer b value) (length old)) × (old ≡ written_of (violations_answer b value) old)
+    pub violations_turned : (old : List ℕ) (k : ℕ) → ((r : Outcome ℕ) → admitted value_limit value r ≡ refused k) → record { result_value : refused k ≡ answer_of (violations_answer b value) (length old); out_after : old ≡ written_of (violations_answer b value) old }
     unfolding answer_of written_of then
-    violations_turned old k a = (rw (turned_is k a), rw (turned_is k a))
+    violations_turned old k a = record { result_value = rw (turned_is k a); out_after = rw (turned_is k a) }
 
     module _ (old : List ℕ) (r : Judged) {base list : List ℕ} (a : (o : Outcome ℕ) → admitted value_limit value o ≡ o) (j : RowJudged value b 0 0 base list r) where
       violations_are : is_false r.truth ≡ true → violations value (tree_at b 0) ≡ violated (counts_on value) (first_at b 0) (tree_at b 0)
@@ -350,30 +350,39 @@ module _ (b value : List ℕ) where
       bytes_are t = ap number_bytes (violations_are t)
 
       -- nothing, unless the whole is False
-      pub violations-not : is_false r.truth ≡ false → (ok 0 ≡ answer_of (violations_answer b value) (length old)) × (old ≡ written_of (violations_answer b value) old)
+      pub violations-not : is_false r.truth ≡ false → record { result_value : ok 0 ≡ answer_of (violations_answer b value) (length old); out_after : old ≡ written_of (violations_answer b value) old }
       unfolding number_bytes
       violations-not t =
           let is = answer_is a ∙ ap (λ x. ok (numbered x)) (violations_none t) in
           let w = numbered [] in
-          (sym (ap (λ x. answer_of x (length old)) is ∙ answer_fits w (length old) (omega arith)), sym (ap (λ x. written_of x old) is ∙ written_fits w old (omega arith)))
+          record {
+            result_value = sym (ap (λ x. answer_of x (length old)) is ∙ answer_fits w (length old) (omega arith));
+            out_after = sym (ap (λ x. written_of x old) is ∙ written_fits w old (omega arith));
+          }
 
       -- 14
-      pub violations_short : is_false r.truth ≡ true → length old < r.at → (refuse NoRoom ≡ answer_of (violations_answer b value) (length old)) × (old ≡ written_of (violations_answer b value) old)
+      pub violations_short : is_false r.truth ≡ true → length old < r.at → record { result_value : refuse NoRoom ≡ answer_of (violations_answer b value) (length old); out_after : old ≡ written_of (violations_answer b value) old }
       violations_short t l =
           let w = numbered (violations value (tree_at b 0)) in
           let short : length old < length (number_bytes (violations value (tree_at b 0))) = omega (arith, l, j.written.ends, ap length (bytes_are t)) in
-          (sym (ap (λ x. answer_of x (length old)) (answer_is a) ∙ answer_short w (length old) short), sym (ap (λ x. written_of x old) (answer_is a) ∙ written_short w old short))
+          record {
+            result_value = sym (ap (λ x. answer_of x (length old)) (answer_is a) ∙ answer_short w (length old) short);
+            out_after = sym (ap (λ x. written_of x old) (answer_is a) ∙ written_short w old short);
+          }
 
       -- their count, and their numbers
       pub violations_done : {new : List ℕ} {q : ℕ} → is_false r.truth ≡ true → r.at ≤ length old → Appended (take r.at list) 0 old new q
-          → (ok (r.at / 2) ≡ answer_of (violations_answer b value) (length old)) × (new ≡ written_of (violations_answer b value) old)
+          → record { result_value : ok (r.at / 2) ≡ answer_of (violations_answer b value) (length old); out_after : new ≡ written_of (violations_answer b value) old }
       violations_done {new} {q} t l p =
           let ns = violations value (tree_at b 0) in
           let w = numbered ns in
           let fits : length (number_bytes ns) ≤ length old = omega (arith, l, j.written.ends, ap length (bytes_are t)) in
           let half : r.at / 2 ≡ length ns = omega (arith, j.written.ends, ap length (bytes_are t), numbers_length ns) in
           let bytes : take r.at list ≡ number_bytes ns = j.written.has ∙ sym (bytes_are t) in
-          (ap ok half ∙ sym (ap (λ x. answer_of x (length old)) (answer_is a) ∙ answer_fits w (length old) fits), whole (same bytes p) ∙ sym (ap (λ x. written_of x old) (answer_is a) ∙ written_fits w old fits))
+          record {
+            result_value = ap ok half ∙ sym (ap (λ x. answer_of x (length old)) (answer_is a) ∙ answer_fits w (length old) fits);
+            out_after = whole (same bytes p) ∙ sym (ap (λ x. written_of x old) (answer_is a) ∙ written_fits w old fits);
+          }
 
 module _ (b answers value : List ℕ) where
   -- 15

@@ -12,7 +12,7 @@ pub put_cited-w-requires : goal.put_cited-w-requires
 put_cited-w-requires c = let r = going_room c.loop-left.invariant (omega arith) _ c.get16-number.ensures.0 c.requires.3 in (c.requires.0, r.0, r.1)
 
 pub loop-left-preserved : goal.loop-left-preserved
-loop-left-preserved c = going_next c.loop-left.invariant (omega arith) _ c.get16-number.ensures.0 c.put_cited-w.ensures c.put_cited-w.auto.1.1.0
+loop-left-preserved c = going_next c.loop-left.invariant (omega arith) _ c.get16-number.ensures.0 c.put_cited-w.ensures c.put_cited-w.auto.out
 
 pub shape_of-out : goal.shape_of-out
 shape_of-out c = c.loop-left.invariant.kept

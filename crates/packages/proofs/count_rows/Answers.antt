@@ -1,4 +1,3 @@
-use Prim.Native.Nat.{◌-◌}
 use native.Mathlib.Omega.{arith}
 use Rattle.packages.proofs.Laws.{count_begin, count_next, count_end}
 use Rattle.packages.proofs.count_rows.Goals as goal

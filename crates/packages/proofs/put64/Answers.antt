@@ -9,7 +9,7 @@ pub put_byte-w-requires : goal.put_byte-w-requires
 put_byte-w-requires c = let p = c.loop-left.invariant.place in let k = c.loop-left.invariant.kept in let b = c.requires in omega (arith, p, k, b)
 
 pub loop-left-preserved : goal.loop-left-preserved
-loop-left-preserved c = bytes_next c.loop-left.invariant (omega arith) c.put_byte-w.ensures c.put_byte-w.auto.0
+loop-left-preserved c = bytes_next c.loop-left.invariant (omega arith) c.put_byte-w.ensures c.put_byte-w.auto.out
 
 pub shape_of-out : goal.shape_of-out
 shape_of-out c = c.loop-left.invariant.kept

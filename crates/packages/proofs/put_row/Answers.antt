@@ -4,13 +4,13 @@ use Rattle.packages.proofs.Laws.{after_eight, row_written}
 use Rattle.packages.proofs.put_row.Goals as goal
 
 pub put64-w-requires : goal.put64-w-requires
-put64-w-requires c = omega (arith, c.requires.0, ends_two c.args.n c.put16-w.ensures, c.put16-w.auto.0)
+put64-w-requires c = omega (arith, c.requires.0, ends_two c.args.n c.put16-w.ensures, c.put16-w.auto.out)
 
 pub put_byte-w-requires : goal.put_byte-w-requires
-put_byte-w-requires c = omega (arith, c.requires.0, ends_two c.args.n c.put16-w.ensures, c.put16-w.auto.0, after_eight c.args.p.low c.put64-w.ensures, c.put64-w.auto.0)
+put_byte-w-requires c = omega (arith, c.requires.0, ends_two c.args.n c.put16-w.ensures, c.put16-w.auto.out, after_eight c.args.p.low c.put64-w.ensures, c.put64-w.auto.out)
 
 pub put64-requires : goal.put64-requires
-put64-requires c = omega (arith, c.requires.0, ends_two c.args.n c.put16-w.ensures, c.put16-w.auto.0, after_eight c.args.p.low c.put64-w.ensures, c.put64-w.auto.0, c.put_byte-w.ensures.ends, c.put_byte-w.auto.0)
+put64-requires c = omega (arith, c.requires.0, ends_two c.args.n c.put16-w.ensures, c.put16-w.auto.out, after_eight c.args.p.low c.put64-w.ensures, c.put64-w.auto.out, c.put_byte-w.ensures.ends, c.put_byte-w.auto.out)
 
 pub returns : goal.returns
 returns c = row_written c.args.n c.args.p c.mark_of.result c.high_of.result c.mark_of.ensures c.high_of.ensures c.put16-w.ensures c.put64-w.ensures c.put_byte-w.ensures c.put64.ensures

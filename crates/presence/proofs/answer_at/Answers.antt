@@ -23,4 +23,7 @@ returns-in-3 c = answered-at c.args.answers.now _ 3 (omega arith) c.in-3.is
 
 pub returns-in_default : goal.returns-in_default
 unfolding answered
-returns-in_default c = let k = c.in_default.rest in let a = c.args.answers.now in let n = c.args.number in answered-failed (get_or a n 0) (omega (arith, k.1, k.0.1, k.0.0.1, k.0.0.0.1)) ∙ answered-at a n (get_or a n 0) (omega arith) refl
+returns-in_default c =
+    let a = c.args.answers.now in
+    let n = c.args.number in
+    answered-failed (get_or a n 0) (omega arith) ∙ answered-at a n (get_or a n 0) (omega arith) refl

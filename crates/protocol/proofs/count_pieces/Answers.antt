@@ -1,4 +1,3 @@
-use Prim.Native.Nat.{◌-◌}
 use native.Mathlib.Omega.{arith}
 use Rattle.protocol.proofs.Pieces.{count_step, count_end}
 use Rattle.protocol.proofs.count_pieces.Goals as goal

@@ -37,7 +37,10 @@ returns-then-line-end c = let line = c.args.line.now in
     let k = rw rest at c.piece_end.ensures.1 in
     let l = length-drop from line in
     let none = c.tail-then-line-end.ensures ∙ drop_of_length-le line {i = from + c.piece_end.result} (omega arith) in
-    (none ∙ sym (piece_past line from c.piece_end.result (omega arith) w c.loop-left.left (omega arith) (omega arith)) ∙ c.loop-left.invariant.0, rw none (omega arith))
+    record {
+      result_value = none ∙ sym (piece_past line from c.piece_end.result (omega arith) w c.loop-left.left (omega arith) (omega arith)) ∙ c.loop-left.invariant.0;
+      result_in_bounds = rw none (omega arith);
+    }
 
 pub overflow_add-from : goal.overflow_add-from
 overflow_add-from c = let line = c.args.line.now in
@@ -66,4 +69,7 @@ returns c = let line = c.args.line.now in
     let l = length-drop from line in
     let e = c.head.ensures ∙ ap₂ take w rest in
     let z : c.loop-left.left ≡ 0 = omega arith in
-    (e ∙ piece_first (drop from line) ∙ ap (λ (n : ℕ). get_or (pieces (drop from line)) n []) (sym z) ∙ c.loop-left.invariant.0, rw e (omega (arith, length-take-le (width (drop from line)) (drop from line) (omega (arith, w)))))
+    record {
+      result_value = e ∙ piece_first (drop from line) ∙ ap (λ (n : ℕ). get_or (pieces (drop from line)) n []) (sym z) ∙ c.loop-left.invariant.0;
+      result_in_bounds = rw e (omega (arith, length-take-le (width (drop from line)) (drop from line) (omega (arith, w))));
+    }

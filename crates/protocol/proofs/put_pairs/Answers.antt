@@ -1,18 +1,23 @@
+use Prim.Native.Nat.{ℕ, ◌+◌, ◌*◌, ◌≤◌}
+use mathlib.Core.Path.{◌≡◌, refl, sym, ap, ◌∙◌}
+use mathlib.Core.List.{List, [], ◌++◌, append-nil}
+use native.Mathlib.Omega.{arith}
+use lib.ListN.{length, take, drop, length-set}
+use lib.Seq.{drop-set-lt, drop-drop}
+use Rattle.text.specs.Bytes.{over}
+use Rattle.protocol.specs.Hex.{pairs}
+use Rattle.protocol.proofs.Laws.{pairs_put, pairs-no-first, pairs-no_second, pairs_end, over_is}
+use Rattle.protocol.proofs.put_pairs.Goals as goal
+
 -- the bytes from a place on stayed, and so those from the next
 further : (new old : List ℕ) (n : ℕ) → drop n new ≡ drop n old → drop (n + 1) new ≡ drop (n + 1) old
 further new old n e = sym (drop-drop 1 n new) ∙ ap (drop 1) e ∙ drop-drop 1 n old
+
 -- no pair is left
-done : (f old new : List ℕ) (i n : ℕ) → n ≤ length new → pairs (drop i f) ≡ [] → take n new ++ pairs (drop i f) ≡ pairs f → drop n new ≡ drop n old → 2 * n ≤ length f → ((n ≡ length (pairs f)) × (2 * n ≤ length f)) × (new ≡ over (pairs f) old)
+done : (f old new : List ℕ) (i n : ℕ) → n ≤ length new → pairs (drop i f) ≡ [] → take n new ++ pairs (drop i f) ≡ pairs f → drop n new ≡ drop n old → 2 * n ≤ length f → record { value : (n ≡ length (pairs f)) × (2 * n ≤ length f); out_after : new ≡ over (pairs f) old }
 done f old new i n h e p d b =
     let q = over_is new old (pairs f) n h (sym (append-nil (take n new)) ∙ ap (λ (l : List ℕ). take n new ++ l) (sym e) ∙ p) d in
-    ((q.0, b), q.1)
-use Prim.Native.Nat.{◌+◌, ◌-◌}
-use mathlib.Core.Path.{refl, ◌∙◌}
-use native.Mathlib.Omega.{arith}
-use lib.ListN.{length-set}
-use lib.Seq.{drop-set-lt}
-use Rattle.protocol.proofs.Laws.{pairs_put, pairs-no-first, pairs-no_second, pairs_end}
-use Rattle.protocol.proofs.put_pairs.Goals as goal
+    record { value = (q.0, b); out_after = q.1 }
 
 pub loop-i-init : goal.loop-i-init
 loop-i-init c = (refl, refl, omega arith, omega arith, refl)

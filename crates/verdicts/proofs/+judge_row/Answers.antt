@@ -4,37 +4,37 @@ use Rattle.verdicts.proofs.Laws as laws
 use Rattle.verdicts.proofs.+judge_row.Goals as goal
 
 pub kind_at-k-requires : goal.kind_at-k-requires
-kind_at-k-requires t c = (c.requires.1.0, c.requires.1.1)
+kind_at-k-requires t c = (c.requires.0, c.requires.1)
 
 pub number_at-m-requires : goal.number_at-m-requires
-number_at-m-requires t c = (c.requires.1.0, c.requires.1.1)
+number_at-m-requires t c = (c.requires.0, c.requires.1)
 
 pub judge_cited-requires : goal.judge_cited-requires
-judge_cited-requires t c = let b = c.requires.1 in let l = laws.leaf_asked c.args.value.now c.args.tree.now b.0 _ _ _ _ b.1 (sym c.kind_at-k.ensures.0 ∙ c.if-k-eq0.true) c.number_at-m.ensures.0 b.2 in (b.0, l.0, c.number_at-m.ensures.1, l.1)
+judge_cited-requires t c = let b = c.requires in let l = laws.leaf_asked c.args.value.now c.args.tree.now b.0 _ _ _ _ b.1 (sym c.kind_at-k.ensures.0 ∙ c.if-k-eq0.true) c.number_at-m.ensures.0 b.2 in (b.0, l.0, c.number_at-m.ensures.1, l.1)
 
 pub returns-then-k-eq0 : goal.returns-then-k-eq0
-returns-then-k-eq0 t c = let b = c.requires.1 in laws.leaf_judged c.args.value.now c.args.tree.now b.0 b.1 (sym c.kind_at-k.ensures.0 ∙ c.if-k-eq0.true) c.number_at-m.ensures.0 c.judge_cited.ensures
+returns-then-k-eq0 t c = let b = c.requires in laws.leaf_judged c.args.value.now c.args.tree.now b.0 b.1 (sym c.kind_at-k.ensures.0 ∙ c.if-k-eq0.true) c.number_at-m.ensures.0 c.judge_cited.ensures
 
 pub overflow_add-child : goal.overflow_add-child
-overflow_add-child t c = let b = c.requires.1 in omega (arith, b.1, laws.few_rows c.args.value.now c.args.tree.now b.0)
+overflow_add-child t c = let b = c.requires in omega (arith, b.1, laws.few_rows c.args.value.now c.args.tree.now b.0)
 
 pub loop-left-init : goal.loop-left-init
-loop-left-init t c = let b = c.requires.1 in laws.state_starts c.args.value.now c.args.tree.now b.0 _ _ _ _ _ b.1 (λ q. c.if-k-eq0.false (c.kind_at-k.ensures.0 ∙ q)) c.number_at-m.ensures.0 c.new-tally.ensures
+loop-left-init t c = let b = c.requires in laws.state_starts c.args.value.now c.args.tree.now b.0 _ _ _ _ _ b.1 (λ q. c.if-k-eq0.false (c.kind_at-k.ensures.0 ∙ q)) c.number_at-m.ensures.0 c.new-tally.ensures
 
 pub size_at-size-requires : goal.size_at-size-requires
-size_at-size-requires t c = let b = c.requires.1 in (b.0, (laws.state_next c.args.value.now c.args.tree.now b.0 c.loop-left.invariant (omega arith)).inside)
+size_at-size-requires t c = let b = c.requires in (b.0, (laws.state_next c.args.value.now c.args.tree.now b.0 c.loop-left.invariant (omega arith)).inside)
 
 pub judge_row-here-requires : goal.judge_row-here-requires
-judge_row-here-requires t c = let b = c.requires.1 in let n = laws.state_next c.args.value.now c.args.tree.now b.0 c.loop-left.invariant (omega arith) in (omega (arith, c.requires.0, n.shrinks), (b.0, n.inside, laws.state_room c.args.value.now c.args.tree.now b.0 c.loop-left.invariant (omega arith) b.2 (λ q. c.if-k-eq0.false (c.kind_at-k.ensures.0 ∙ q))))
+judge_row-here-requires t c = let b = c.requires in let n = laws.state_next c.args.value.now c.args.tree.now b.0 c.loop-left.invariant (omega arith) in (omega (arith, c.decreases, n.shrinks), (b.0, n.inside, laws.state_room c.args.value.now c.args.tree.now b.0 c.loop-left.invariant (omega arith) b.2 (λ q. c.if-k-eq0.false (c.kind_at-k.ensures.0 ∙ q))))
 
 pub overflow_add-child-in-loop-left : goal.overflow_add-child-in-loop-left
-overflow_add-child-in-loop-left t c = let b = c.requires.1 in let n = laws.state_next c.args.value.now c.args.tree.now b.0 c.loop-left.invariant (omega arith) in omega (arith, n.walk.within, c.size_at-size.ensures.0, laws.few_rows c.args.value.now c.args.tree.now b.0)
+overflow_add-child-in-loop-left t c = let b = c.requires in let n = laws.state_next c.args.value.now c.args.tree.now b.0 c.loop-left.invariant (omega arith) in omega (arith, n.walk.within, c.size_at-size.ensures.0, laws.few_rows c.args.value.now c.args.tree.now b.0)
 
 pub loop-left-preserved : goal.loop-left-preserved
-loop-left-preserved t c = laws.state_again c.args.value.now c.args.tree.now c.requires.1.0 c.loop-left.invariant (omega arith) _ _ c.size_at-size.ensures.0 c.judge_row-here.ensures c.judge_row-here.auto.1.1.1.0 c.add-tally.ensures
+loop-left-preserved t c = laws.state_again c.args.value.now c.args.tree.now c.requires.0 c.loop-left.invariant (omega arith) _ _ c.size_at-size.ensures.0 c.judge_row-here.ensures c.judge_row-here.auto.list c.add-tally.ensures
 
 pub shape_of-list : goal.shape_of-list
 shape_of-list t c = c.loop-left.invariant.kept
 
 pub returns : goal.returns
-returns t c = laws.state_ends c.args.value.now c.args.tree.now c.requires.1.0 c.loop-left.invariant (omega arith) _ c.kind_at-k.ensures.0 c.if-k-eq0.false _ c.rule.ensures refl
+returns t c = laws.state_ends c.args.value.now c.args.tree.now c.requires.0 c.loop-left.invariant (omega arith) _ c.kind_at-k.ensures.0 c.if-k-eq0.false _ c.rule.ensures refl

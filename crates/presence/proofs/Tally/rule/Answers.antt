@@ -1,3 +1,4 @@
+use native.Mathlib.Omega.{arith}
 use borrow.Author.Tests.{ne_eqb}
 use Rattle.presence.specs.Tallies.{ruled}
 use Rattle.presence.proofs.Tally.rule.Goals as goal
@@ -12,4 +13,4 @@ returns-in-4 c = rw c.in-4.is c.xor.ensures
 
 pub returns-in_default : goal.returns-in_default
 unfolding ruled
-returns-in_default c = rw (ne_eqb c.args.kind 3 c.in_default.rest.0.1, ne_eqb c.args.kind 4 c.in_default.rest.1) c.and.ensures
+returns-in_default c = rw (ne_eqb c.args.kind 3 (λ e. omega arith), ne_eqb c.args.kind 4 (λ e. omega arith)) c.and.ensures
