@@ -18,7 +18,7 @@ use Rattle.grammar.specs.Reading.{Fits}
 use Rattle.grammar.specs.Rows.{op_kind, many, rows, span, spans, firsts, children, build, rows_span}
 use Rattle.grammar.proofs.Rows.{firsts-all, built}
 =======
-use Rattle.grammar.specs.Rows.{op_kind, many, span, spans, firsts, children, build, firsts-all, rows_span, built}
+use Rattle.grammar.specs.Rows.{op_kind, many, span, spans, firsts, children, build, rows_span}
 >>>>>>> 4d8cf29d24cd9ab0e09acf47e7afada359648093
 use Rattle.grammar.specs.Bytes.{head_size, nodes, cites, cites_at, texts_at, rows_from, rows_in, texts_in, is_tree, forest_at, tree_at, tree_of}
 use Rattle.grammar.proofs.Shape.{span_some}

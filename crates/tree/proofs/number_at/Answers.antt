@@ -3,7 +3,6 @@ use native.Mathlib.Omega.{arith}
 use Rattle.grammar.proofs.Trees.{tests}
 use borrow.Author.Rules.{rules}
 =======
-use Rattle.grammar.specs.Trees.{tests}
 >>>>>>> 4d8cf29d24cd9ab0e09acf47e7afada359648093
 use Rattle.tree.proofs.number_at.Goals as goal
 
