@@ -14,12 +14,7 @@ use Rattle.refusal.specs.declared.Refusal.TheVariants.{NotATree}
 use Rattle.grammar.specs.Expr.{And, Or, Xor, Expr, Exprs, cite, Then, join, none, more, ◌◂◌, ◌⧺◌, citations, citations_of, count, citations_append}
 use Rattle.grammar.proofs.Expr.{append_none, appends_assoc}
 use Rattle.grammar.specs.Reading.{Fits}
-<<<<<<< HEAD
-use Rattle.grammar.specs.Rows.{op_kind, many, rows, span, spans, firsts, children, build, rows_span}
-use Rattle.grammar.proofs.Rows.{firsts-all, built}
-=======
 use Rattle.grammar.specs.Rows.{op_kind, many, span, spans, firsts, children, build, rows_span}
->>>>>>> 4d8cf29d24cd9ab0e09acf47e7afada359648093
 use Rattle.grammar.specs.Bytes.{head_size, nodes, cites, cites_at, texts_at, rows_from, rows_in, texts_in, is_tree, forest_at, tree_at, tree_of}
 use Rattle.grammar.proofs.Shape.{span_some}
 use Rattle.grammar.specs.Pack.{rows_length}
