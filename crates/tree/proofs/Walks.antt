@@ -1,4 +1,5 @@
 -- Walking a tree by its rows: the root, a citation's row, and the loop over a node's children. Assumes nothing.
+use Rattle.grammar.proofs.Rows.{firsts-all, built}
 use mathlib.Core.Path.{◌≡◌, refl, sym, ap, ◌∙◌, subst}
 use mathlib.Core.List.{List, [], ◌∷◌, ◌++◌}
 use mathlib.Core.Bool.{Bool, true, false}

@@ -1,3 +1,4 @@
+use Rattle.grammar.proofs.Trees.{tests}
 use native.Mathlib.Omega.{arith}
 use Rattle.tree.proofs.number_at.Goals as goal
 
