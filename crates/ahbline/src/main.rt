@@ -10,8 +10,8 @@ ghost use Rattle.std.specs.Prelude.{◌≤◌, ◌<◌, length};
 ghost use Rattle.line.specs.Sizes.{longest_report};
 ghost use Rattle.line.specs.Input.{Buffers, Sized};
 
-use libc::{STDIN_FILENO, STDOUT_FILENO};
 use line::{ANSWERS_KEPT, Held, LINES_SIZE, STATUS_KEPT, VALUE_KEPT, feed_all, report_held};
+use std::io::{Stdin, Stdout};
 
 // What is held of the input, and whether more of it is to be read.
 #[derive(Clone, Copy)]
@@ -30,6 +30,7 @@ fn goes_on(n: usize, row: usize) -> bool {
 
 // One read.
 fn read_some(
+    from: Stdin,
     held: Held,
     input: &mut [u8],
     status: &mut [u8],
@@ -39,8 +40,7 @@ fn read_some(
     requires { Buffers held status.old answers.old value.old }
     ensures { Buffers result.held status.new answers.new value.new }
 {
-    let got = libc::read(STDIN_FILENO, input);
-    let n = io::count(got, input);
+    let n = console::read_some(from, input);
     let after = feed_all(&input[..n], held, status, answers, value);
     let row = after.row;
     Turn {
@@ -58,14 +58,20 @@ fn left(turns: u64, more: bool) -> u64
 }
 
 // Nothing says that the input ends, so the turns are counted down from a number that no run uses up.
-fn read_all(input: &mut [u8], status: &mut [u8], answers: &mut [u8], value: &mut [u8]) -> Held
+fn read_all(
+    from: Stdin,
+    input: &mut [u8],
+    status: &mut [u8],
+    answers: &mut [u8],
+    value: &mut [u8],
+) -> Held
     requires { Sized status.old answers.old value.old }
     ensures { Buffers result status.new answers.new value.new }
 {
     let mut held = Held::new();
     let mut turns = u64::MAX;
     while turns > 0 {
-        let t = read_some(held, input, status, answers, value);
+        let t = read_some(from, held, input, status, answers, value);
         held = t.held;
         turns = left(turns, t.more);
     }
@@ -73,25 +79,43 @@ fn read_all(input: &mut [u8], status: &mut [u8], answers: &mut [u8], value: &mut
 }
 
 // The lines for what was read.
-fn write_report(held: Held, status: &[u8], answers: &[u8], value: &[u8], out: &mut [u8])
+fn write_report(to: Stdout, held: Held, status: &[u8], answers: &[u8], value: &[u8], out: &mut [u8])
     requires { Buffers held status.now answers.now value.now × (longest_report ≤ length out.old) }
 {
     let n = report_held(held, status, answers, value, out);
-    io::write_all(STDOUT_FILENO, text::head(out, n));
+    console::write_all(to, text::head(out, n));
 }
 
-fn answer(input: &mut [u8], status: &mut [u8], answers: &mut [u8], value: &mut [u8], out: &mut [u8])
+fn answer(
+    from: Stdin,
+    to: Stdout,
+    input: &mut [u8],
+    status: &mut [u8],
+    answers: &mut [u8],
+    value: &mut [u8],
+    out: &mut [u8],
+)
     requires { Sized status.old answers.old value.old × (longest_report ≤ length out.old) }
 {
-    let held = read_all(input, status, answers, value);
-    write_report(held, status, answers, value, out);
+    let held = read_all(from, input, status, answers, value);
+    write_report(to, held, status, answers, value, out);
 }
 
-fn main() {
+fn main(rt: HostRuntime) {
+    let from = rt.stdin();
+    let to = rt.stdout();
     let mut input = [0u8; 65536];
     let mut status = [0u8; STATUS_KEPT];
     let mut answers = [0u8; ANSWERS_KEPT];
     let mut value = [0u8; VALUE_KEPT];
     let mut out = [0u8; LINES_SIZE];
-    answer(&mut input, &mut status, &mut answers, &mut value, &mut out);
+    answer(
+        from,
+        to,
+        &mut input,
+        &mut status,
+        &mut answers,
+        &mut value,
+        &mut out,
+    );
 }

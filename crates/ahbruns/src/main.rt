@@ -11,8 +11,8 @@ ghost use Rattle.std.specs.Prelude.{◌≤◌, ◌<◌, length};
 ghost use Rattle.line.specs.Sizes.{longest_report};
 ghost use Rattle.line.specs.Input.{Buffers, Sized};
 
-use libc::{STDIN_FILENO, STDOUT_FILENO};
 use line::{ANSWERS_KEPT, Held, LINES_SIZE, STATUS_KEPT, VALUE_KEPT, feed, report_held};
+use std::io::{Stdin, Stdout};
 
 // What is held of the present run, and whether there was input.
 #[derive(Clone, Copy)]
@@ -22,17 +22,25 @@ struct Turn {
 }
 
 // Writes the report of a run, and begins the next.
-fn end_run(held: Held, status: &[u8], answers: &[u8], value: &[u8], out: &mut [u8]) -> Held
+fn end_run(
+    to: Stdout,
+    held: Held,
+    status: &[u8],
+    answers: &[u8],
+    value: &[u8],
+    out: &mut [u8],
+) -> Held
     requires { Buffers held status.now answers.now value.now × (longest_report ≤ length out.old) }
     ensures { Buffers result status.now answers.now value.now }
 {
     let n = report_held(held, status, answers, value, out);
-    io::write_all(STDOUT_FILENO, text::head(out, n));
-    io::write_all(STDOUT_FILENO, b"--\n");
+    console::write_all(to, text::head(out, n));
+    console::write_all(to, b"--\n");
     Held::new()
 }
 
 fn take_byte(
+    to: Stdout,
     b: u8,
     held: Held,
     status: &mut [u8],
@@ -44,12 +52,13 @@ fn take_byte(
     ensures { Buffers result status.new answers.new value.new }
 {
     if b == 0 {
-        return end_run(held, status, answers, value, out);
+        return end_run(to, held, status, answers, value, out);
     }
     feed(b, held, status, answers, value)
 }
 
 fn take_input(
+    to: Stdout,
     input: &[u8],
     held: Held,
     status: &mut [u8],
@@ -63,7 +72,7 @@ fn take_input(
     let mut state = held;
     let mut i = 0;
     while i < input.len() {
-        state = take_byte(input[i], state, status, answers, value, out);
+        state = take_byte(to, input[i], state, status, answers, value, out);
         i += 1;
     }
     state
@@ -71,6 +80,8 @@ fn take_input(
 
 // One read, and the reports of the runs that it ends.
 fn read_some(
+    from: Stdin,
+    to: Stdout,
     held: Held,
     input: &mut [u8],
     status: &mut [u8],
@@ -81,9 +92,8 @@ fn read_some(
     requires { Buffers held status.old answers.old value.old × (longest_report ≤ length out.old) }
     ensures { Buffers result.held status.new answers.new value.new }
 {
-    let got = libc::read(STDIN_FILENO, input);
-    let n = io::count(got, input);
-    let after = take_input(&input[..n], held, status, answers, value, out);
+    let n = console::read_some(from, input);
+    let after = take_input(to, &input[..n], held, status, answers, value, out);
     Turn {
         more: 0 < n,
         held: after,
@@ -100,6 +110,8 @@ fn left(turns: u64, more: bool) -> u64
 
 // Nothing says that the input ends, so the turns are counted down from a number that no run uses up.
 fn answer_all(
+    from: Stdin,
+    to: Stdout,
     input: &mut [u8],
     status: &mut [u8],
     answers: &mut [u8],
@@ -111,18 +123,28 @@ fn answer_all(
     let mut held = Held::new();
     let mut turns = u64::MAX;
     while turns > 0 {
-        let t = read_some(held, input, status, answers, value, out);
+        let t = read_some(from, to, held, input, status, answers, value, out);
         held = t.held;
         turns = left(turns, t.more);
     }
-    end_run(held, status, answers, value, out);
+    end_run(to, held, status, answers, value, out);
 }
 
-fn main() {
+fn main(rt: HostRuntime) {
+    let from = rt.stdin();
+    let to = rt.stdout();
     let mut input = [0u8; 65536];
     let mut status = [0u8; STATUS_KEPT];
     let mut answers = [0u8; ANSWERS_KEPT];
     let mut value = [0u8; VALUE_KEPT];
     let mut out = [0u8; LINES_SIZE];
-    answer_all(&mut input, &mut status, &mut answers, &mut value, &mut out);
+    answer_all(
+        from,
+        to,
+        &mut input,
+        &mut status,
+        &mut answers,
+        &mut value,
+        &mut out,
+    );
 }

@@ -10,205 +10,209 @@ ghost use Rattle.std.specs.Prelude.{◌≤◌, length};
 
 use citation::{ConditionKind, KindAnswer, Paket, PaketAnswer, Truth};
 use formats::{FormatVerdict, RegisteredAnswer, VerdictAnswer};
-use libc::STDOUT_FILENO;
 use refusal::Refusal;
 use status::{StatusKind, WordAnswer};
+use std::io::Stdout;
 
-fn say(s: &[u8]) {
-    io::write_all(STDOUT_FILENO, s);
+fn say(out: Stdout, s: &[u8]) {
+    console::write_all(out, s);
 }
 
-fn say_number(n: u64) {
-    io::print_decimal(STDOUT_FILENO, n);
+fn say_number(out: Stdout, n: u64) {
+    console::print_decimal(out, n);
 }
 
-fn say_byte(b: u8) {
+fn say_byte(out: Stdout, b: u8) {
     if 32 < b {
         if b < 127 {
-            say(&[b]);
+            say(out, &[b]);
             return;
         }
     }
-    say(b"\\x");
-    io::print_hex(STDOUT_FILENO, b as u64, 2);
+    say(out, b"\\x");
+    console::print_hex(out, b as u64, 2);
 }
 
-fn say_bytes(s: &[u8]) {
+fn say_bytes(out: Stdout, s: &[u8]) {
     let mut i = 0;
     while i < s.len() {
-        say_byte(s[i]);
+        say_byte(out, s[i]);
         i += 1;
     }
 }
 
 // The text with a space before it.
-fn say_text(s: &[u8]) {
-    say(b" ");
+fn say_text(out: Stdout, s: &[u8]) {
+    say(out, b" ");
     let n = s.len();
     if n == 0 {
-        say(b"\"\"");
+        say(out, b"\"\"");
         return;
     }
     if n < 100 {
-        say_bytes(s);
+        say_bytes(out, s);
         return;
     }
-    say_byte(s[0]);
-    say(b" ");
-    say_number(n as u64);
-    say(b" times");
+    say_byte(out, s[0]);
+    say(out, b" ");
+    say_number(out, n as u64);
+    say(out, b" times");
 }
 
-fn say_refusal(why: Refusal) {
-    say(b" refused ");
-    say_number(why.number() as u64);
-    say(b"\n");
+fn say_refusal(out: Stdout, why: Refusal) {
+    say(out, b" refused ");
+    say_number(out, why.number() as u64);
+    say(out, b"\n");
 }
 
-fn say_bool(is: bool) {
-    if is { say(b" yes\n") } else { say(b" no\n") }
-}
-
-fn say_verdict(v: FormatVerdict) {
-    match v {
-        FormatVerdict::Holds => say(b" Holds\n"),
-        FormatVerdict::Violated => say(b" Violated\n"),
-        FormatVerdict::Unregistered => say(b" Unregistered\n"),
-    }
-}
-
-fn evaluate(text: &[u8], value: &[u8]) {
-    say(b"evaluate");
-    say_text(text);
-    say_text(value);
-    match formats::evaluate(text, value) {
-        VerdictAnswer::Refused(why) => say_refusal(why),
-        VerdictAnswer::Verdict(v) => say_verdict(v),
-    }
-}
-
-fn registered(text: &[u8]) {
-    say(b"registered");
-    say_text(text);
-    match formats::is_registered(text) {
-        RegisteredAnswer::Refused(why) => say_refusal(why),
-        RegisteredAnswer::Known(is) => say_bool(is),
-    }
-}
-
-fn say_kind(k: ConditionKind) {
-    match k {
-        ConditionKind::Voraussetzung => say(b" Voraussetzung\n"),
-        ConditionKind::Hinweis => say(b" Hinweis\n"),
-        ConditionKind::Format => say(b" Format\n"),
-        ConditionKind::Wiederholbarkeit => say(b" Wiederholbarkeit\n"),
-        ConditionKind::Zeitpunkt => say(b" Zeitpunkt\n"),
-        ConditionKind::Paket => say(b" Paket\n"),
-        ConditionKind::Other => say(b" Other\n"),
-    }
-}
-
-fn kind(text: &[u8]) {
-    say(b"kind");
-    say_text(text);
-    match ConditionKind::of(text) {
-        KindAnswer::Refused(why) => say_refusal(why),
-        KindAnswer::Known(k) => say_kind(k),
-    }
-}
-
-fn say_name(text: &[u8], name: usize) {
-    say(b" name");
-    if name <= text.len() {
-        say_text(text::head(text, name));
-    }
-}
-
-fn say_bounds(p: Paket) {
-    say(b" low ");
-    say_number(p.low);
-    say(b" high ");
-    if p.bounded {
-        say_number(p.high);
-        say(b"\n");
+fn say_bool(out: Stdout, is: bool) {
+    if is {
+        say(out, b" yes\n")
     } else {
-        say(b"n\n");
+        say(out, b" no\n")
     }
 }
 
-fn say_paket(text: &[u8], p: Paket) {
-    say_name(text, p.name);
-    say_bounds(p);
+fn say_verdict(out: Stdout, v: FormatVerdict) {
+    match v {
+        FormatVerdict::Holds => say(out, b" Holds\n"),
+        FormatVerdict::Violated => say(out, b" Violated\n"),
+        FormatVerdict::Unregistered => say(out, b" Unregistered\n"),
+    }
 }
 
-fn paket(text: &[u8]) {
-    say(b"paket");
-    say_text(text);
+fn evaluate(out: Stdout, text: &[u8], value: &[u8]) {
+    say(out, b"evaluate");
+    say_text(out, text);
+    say_text(out, value);
+    match formats::evaluate(text, value) {
+        VerdictAnswer::Refused(why) => say_refusal(out, why),
+        VerdictAnswer::Verdict(v) => say_verdict(out, v),
+    }
+}
+
+fn registered(out: Stdout, text: &[u8]) {
+    say(out, b"registered");
+    say_text(out, text);
+    match formats::is_registered(text) {
+        RegisteredAnswer::Refused(why) => say_refusal(out, why),
+        RegisteredAnswer::Known(is) => say_bool(out, is),
+    }
+}
+
+fn say_kind(out: Stdout, k: ConditionKind) {
+    match k {
+        ConditionKind::Voraussetzung => say(out, b" Voraussetzung\n"),
+        ConditionKind::Hinweis => say(out, b" Hinweis\n"),
+        ConditionKind::Format => say(out, b" Format\n"),
+        ConditionKind::Wiederholbarkeit => say(out, b" Wiederholbarkeit\n"),
+        ConditionKind::Zeitpunkt => say(out, b" Zeitpunkt\n"),
+        ConditionKind::Paket => say(out, b" Paket\n"),
+        ConditionKind::Other => say(out, b" Other\n"),
+    }
+}
+
+fn kind(out: Stdout, text: &[u8]) {
+    say(out, b"kind");
+    say_text(out, text);
+    match ConditionKind::of(text) {
+        KindAnswer::Refused(why) => say_refusal(out, why),
+        KindAnswer::Known(k) => say_kind(out, k),
+    }
+}
+
+fn say_name(out: Stdout, text: &[u8], name: usize) {
+    say(out, b" name");
+    if name <= text.len() {
+        say_text(out, text::head(text, name));
+    }
+}
+
+fn say_bounds(out: Stdout, p: Paket) {
+    say(out, b" low ");
+    say_number(out, p.low);
+    say(out, b" high ");
+    if p.bounded {
+        say_number(out, p.high);
+        say(out, b"\n");
+    } else {
+        say(out, b"n\n");
+    }
+}
+
+fn say_paket(out: Stdout, text: &[u8], p: Paket) {
+    say_name(out, text, p.name);
+    say_bounds(out, p);
+}
+
+fn paket(out: Stdout, text: &[u8]) {
+    say(out, b"paket");
+    say_text(out, text);
     match Paket::parse(text) {
-        PaketAnswer::Refused(why) => say_refusal(why),
-        PaketAnswer::Read(p) => say_paket(text, p),
+        PaketAnswer::Refused(why) => say_refusal(out, why),
+        PaketAnswer::Read(p) => say_paket(out, text, p),
     }
 }
 
-fn say_word(kind: StatusKind) {
+fn say_word(out: Stdout, kind: StatusKind) {
     let word = kind.as_str();
     let bytes = word.bytes;
     let len = word.len;
-    say(&bytes[..len]);
+    say(out, &bytes[..len]);
 }
 
-fn say_status(kind: StatusKind) {
-    say(b" code ");
-    say_number(kind.code() as u64);
-    say(b" word ");
-    say_word(kind);
+fn say_status(out: Stdout, kind: StatusKind) {
+    say(out, b" code ");
+    say_number(out, kind.code() as u64);
+    say(out, b" word ");
+    say_word(out, kind);
     if kind.is_receiver_checkable() {
-        say(b" checkable\n");
+        say(out, b" checkable\n");
     } else {
-        say(b" not checkable\n");
+        say(out, b" not checkable\n");
     }
 }
 
-fn status(word: &[u8]) {
-    say(b"status");
-    say_text(word);
+fn status(out: Stdout, word: &[u8]) {
+    say(out, b"status");
+    say_text(out, word);
     match StatusKind::from_word(word) {
-        WordAnswer::Is(kind) => say_status(kind),
-        WordAnswer::NoWord => say(b" none\n"),
+        WordAnswer::Is(kind) => say_status(out, kind),
+        WordAnswer::NoWord => say(out, b" none\n"),
     }
 }
 
-fn say_count(n: usize) {
-    say(b" ");
-    say_number(n as u64);
-    say(b"\n");
+fn say_count(out: Stdout, n: usize) {
+    say(out, b" ");
+    say_number(out, n as u64);
+    say(out, b"\n");
 }
 
-fn encoding(s: &[u8]) {
-    say(b"utf8");
-    say_text(s);
+fn encoding(out: Stdout, s: &[u8]) {
+    say(out, b"utf8");
+    say_text(out, s);
     if utf8::is_utf8(s) {
-        say_count(utf8::count(s));
+        say_count(out, utf8::count(s));
     } else {
-        say(b" no\n");
+        say(out, b" no\n");
     }
 }
 
-fn white(code: u32) {
-    say(b"white ");
-    io::print_hex(STDOUT_FILENO, code as u64, 4);
-    say_bool(utf8::is_white(code));
+fn white(out: Stdout, code: u32) {
+    say(out, b"white ");
+    console::print_hex(out, code as u64, 4);
+    say_bool(out, utf8::is_white(code));
 }
 
-fn white_between(low: u32, high: u32) {
+fn white_between(out: Stdout, low: u32, high: u32) {
     for code in low..=high {
-        white(code);
+        white(out, code);
     }
 }
 
-fn truth(is: bool) {
-    say(b"truth");
-    say_count(Truth::from_bool(is).number() as usize);
+fn truth(out: Stdout, is: bool) {
+    say(out, b"truth");
+    say_count(out, Truth::from_bool(is).number() as usize);
 }
 
 // What a word is put to.
@@ -223,15 +227,15 @@ enum Ask {
     Utf8,
 }
 
-fn asked(what: Ask, given: &[u8], word: &[u8]) {
+fn asked(out: Stdout, what: Ask, given: &[u8], word: &[u8]) {
     match what {
-        Ask::Value => evaluate(given, word),
-        Ask::Condition => evaluate(word, given),
-        Ask::Registered => registered(word),
-        Ask::Kind => kind(word),
-        Ask::Paket => paket(word),
-        Ask::Status => status(word),
-        Ask::Utf8 => encoding(word),
+        Ask::Value => evaluate(out, given, word),
+        Ask::Condition => evaluate(out, word, given),
+        Ask::Registered => registered(out, word),
+        Ask::Kind => kind(out, word),
+        Ask::Paket => paket(out, word),
+        Ask::Status => status(out, word),
+        Ask::Utf8 => encoding(out, word),
     }
 }
 
@@ -243,34 +247,35 @@ fn width_of(s: &[u8], separator: &[u8]) -> usize
 }
 
 // The words from a place on, with one separator between two.
-fn each(what: Ask, given: &[u8], words: &[u8], from: usize, separator: &[u8]) {
+fn each(out: Stdout, what: Ask, given: &[u8], words: &[u8], from: usize, separator: &[u8]) {
     let mut at = from;
     while at < words.len() {
         let rest = text::tail(words, at);
         let width = width_of(rest, separator);
-        asked(what, given, text::head(rest, width));
+        asked(out, what, given, text::head(rest, width));
         at = at + width + 1;
     }
 }
 
-fn list(what: Ask, words: &[u8]) {
-    each(what, b"", words, 0, b" ");
+fn list(out: Stdout, what: Ask, words: &[u8]) {
+    each(out, what, b"", words, 0, b" ");
 }
 
 // Words that may have spaces.
-fn lines(what: Ask, words: &[u8]) {
-    each(what, b"", words, 0, b"\n");
+fn lines(out: Stdout, what: Ask, words: &[u8]) {
+    each(out, what, b"", words, 0, b"\n");
 }
 
 // One value for many conditions.
-fn conditions(value: &[u8], words: &[u8]) {
-    each(Ask::Condition, value, words, 0, b" ");
+fn conditions(out: Stdout, value: &[u8], words: &[u8]) {
+    each(out, Ask::Condition, value, words, 0, b" ");
 }
 
 // A condition and its values, with one separator between two.
-fn row(words: &[u8], separator: &[u8]) {
+fn row(out: Stdout, words: &[u8], separator: &[u8]) {
     let width = width_of(words, separator);
     each(
+        out,
         Ask::Value,
         text::head(words, width),
         words,
@@ -280,36 +285,37 @@ fn row(words: &[u8], separator: &[u8]) {
 }
 
 // Such rows, with a line feed between two.
-fn rows(words: &[u8], separator: &[u8]) {
+fn rows(out: Stdout, words: &[u8], separator: &[u8]) {
     let mut at = 0;
     while at < words.len() {
         let rest = text::tail(words, at);
         let width = width_of(rest, b"\n");
-        row(text::head(rest, width), separator);
+        row(out, text::head(rest, width), separator);
         at = at + width + 1;
     }
 }
 
-fn values(words: &[u8]) {
-    rows(words, b" ");
+fn values(out: Stdout, words: &[u8]) {
+    rows(out, words, b" ");
 }
 
-fn values_with_spaces(words: &[u8]) {
-    rows(words, b"|");
+fn values_with_spaces(out: Stdout, words: &[u8]) {
+    rows(out, words, b"|");
 }
 
 // A byte so many times, and once more.
-fn around(what: Ask, given: &[u8], b: u8, n: usize)
+fn around(out: Stdout, what: Ask, given: &[u8], b: u8, n: usize)
     requires { n ≤ 4400 }
 {
     let word = [b; 4401];
-    asked(what, given, text::head(&word, n));
-    asked(what, given, text::head(&word, n + 1));
+    asked(out, what, given, text::head(&word, n));
+    asked(out, what, given, text::head(&word, n + 1));
 }
 
 // Numbers with a lower bound.
-fn bounds_below() {
+fn bounds_below(out: Stdout) {
     values(
+        out,
         b"902 0 -0 -0.00 +0 0.001 5. .5 1000000000000000000000000000000\n\
           902 -0.001 -1 -.5 . x 1,5\n\
           909 0 -0 .5 17\n\
@@ -322,8 +328,9 @@ fn bounds_below() {
 }
 
 // Numbers with an upper bound.
-fn bounds_above() {
+fn bounds_above(out: Stdout) {
     values(
+        out,
         b"955 99.999 99 0 -100 -1000 99.99999999999999999999999\n\
           955 100 100.0 0100 100.001 101 x\n\
           938 10 10.0 010 9.9 -11\n\
@@ -338,8 +345,9 @@ fn bounds_above() {
 }
 
 // Numbers that are one number, or any other.
-fn exact() {
+fn exact(out: Stdout) {
     values(
+        out,
         b"903 1 +1 01 1. 1.000\n\
           903 -1 0 1.001 0.999 10 2 x\n\
           926 0 -0 +0 .0 0. -0.00 000\n\
@@ -354,8 +362,9 @@ fn exact() {
 }
 
 // Numbers, and whole ones in a range.
-fn numbers() {
+fn numbers(out: Stdout) {
     values(
+        out,
         b"910 0 -0 +0 5 -5 +5 5. .5 -.5 +5.25 007 0.000 999999999999999999999999999999\n\
           910 . + - -. +. abc 1e5 1,5 1.2.3 --5 +-5 5- 0x1F NaN \xD9\xA3 5\xC2\xA0\n\
           913 1 99999 +1 1.0 5. 099999 99999.0 00001 50000\n\
@@ -364,8 +373,9 @@ fn numbers() {
 }
 
 // At most so many digits after the point.
-fn fractions() {
+fn fractions(out: Stdout) {
     values(
+        out,
         b"937 5 5.0 5. 5.000 -7 0 .0\n\
           937 5.1 .5 0.01 -7.001 x .\n\
           930 1.12 1.120 -.12 7 00\n\
@@ -384,8 +394,9 @@ fn fractions() {
 }
 
 // At most so many digits before the point.
-fn integers() {
+fn integers(out: Stdout) {
     values(
+        out,
         b"917 1234 01234 -1234 +1234 1234.56789 0 .5 00009999.999\n\
           917 12345 12345.6 10000 -10000 10000.0 x\n\
           962 123456 0123456 999999.9 -999999 0\n\
@@ -394,8 +405,9 @@ fn integers() {
 }
 
 // Groups of digits.
-fn groups() {
+fn groups(out: Stdout) {
     values(
+        out,
         b"942 1-01-1-001 0-00-0-000 9-99-9-999\n\
           942 1-01-1-01 1-01-1-0011 1-1-1-001 1-011-1-001 11-01-1-001 1-01-11-001 101-1-001\n\
           942 1-01-1001 1-01-1-00a a-01-1-001 1_01_1_001 -01-1-001 1-01-1- 1-01-1-001- 1-01-1\n\
@@ -416,8 +428,9 @@ fn groups() {
 }
 
 // Lengths in characters.
-fn lengths() {
+fn lengths(out: Stdout) {
     values(
+        out,
         b"904 1234567890123456\n\
           904 \xC3\xA4\xC3\xA4\xC3\xA4\xC3\xA4\xC3\xA4\xC3\xA4\xC3\xA4\xC3\xA4\xC3\xA4\xC3\xA4\xC3\xA4\xC3\xA4\xC3\xA4\xC3\xA4\xC3\xA4\xC3\xA4\n\
           904 \xE2\x82\xAC\xE2\x82\xAC\xE2\x82\xAC\xE2\x82\xAC\xE2\x82\xAC\xE2\x82\xAC\xE2\x82\xAC\xE2\x82\xAC\xE2\x82\xAC\xE2\x82\xAC\xE2\x82\xAC\xE2\x82\xAC\xE2\x82\xAC\xE2\x82\xAC\xE2\x82\xAC\xE2\x82\xAC\n\
@@ -435,8 +448,9 @@ fn lengths() {
 }
 
 // Latin-1 without lower-case letters.
-fn upper_case() {
+fn upper_case(out: Stdout) {
     values(
+        out,
         b"918 ABC 0123 @[`{~ \xC3\x84\xC3\x96\xC3\x9C ! \xC2\xA1 \xC2\xA9 \xC2\xAB \xC2\xB4\n\
           918 \xC2\xB9 \xC2\xBB \xC3\x80 \xC3\x97 \xC3\x9E \xC3\xB7 \xC2\xA0\n\
           918 abc aBC z \xC3\x9F \xC3\xA0 \xC3\xA4 \xC3\xB6 \xC3\xB8 \xC3\xBE \xC3\xBF \xC4\x80\n\
@@ -446,8 +460,9 @@ fn upper_case() {
 }
 
 // Other shapes.
-fn shapes() {
+fn shapes(out: Stdout) {
     values(
+        out,
         b"931 +00 x+00 202603282300+00 +00+00\n\
           931 00 +0 +000 202603282300+01 202603282300-00 202603282300\n\
           939 a@b.c @. .@ a.b@c \xC3\xA4@\xC3\xB6.\xC3\xBC\n\
@@ -462,8 +477,9 @@ fn shapes() {
 }
 
 // Times of 15 bytes.
-fn fields() {
+fn fields(out: Stdout) {
     values(
+        out,
         b"932 202607012200+00 202607012200xyz 000000002200+00 202613992200-99\n\
           932 202607012200\xC3\xA4+\n\
           932 202607012300+00 202607012200+0 202607012200+000 202607012200 2026070a2200+00\n\
@@ -487,8 +503,9 @@ fn fields() {
 }
 
 // UB1: midnight in Germany.
-fn midnight() {
+fn midnight(out: Stdout) {
     values(
+        out,
         b"UB1 202603282300+00 202603292200+00 202610242200+00 202610252300+00 202607012200+00\n\
           UB1 202601012300+00\n\
           UB1 202603292300+00 202603282200+00 202610242300+00 202610252200+00 202607012300+00\n\
@@ -501,8 +518,9 @@ fn midnight() {
 }
 
 // UB2: the start of the gas day.
-fn gas_day() {
+fn gas_day(out: Stdout) {
     values(
+        out,
         b"UB2 202603290400+00 202603280500+00 202610240400+00 202610250500+00 202607010400+00\n\
           UB2 202601010500+00\n\
           UB2 202603290500+00 202603280400+00 202610240500+00 202610250400+00 202607010500+00\n\
@@ -511,8 +529,9 @@ fn gas_day() {
 }
 
 // UB3: one or the other.
-fn either_day() {
+fn either_day(out: Stdout) {
     values(
+        out,
         b"UB3 202603282300+00 202603292200+00 202603290400+00 202603280500+00 202610250500+00\n\
           UB3 202610252300+00 202607012200+00 202607010400+00\n\
           UB3 202603292300+00 202603290500+00 202610250400+00 202610252200+00 202607012300+00\n\
@@ -521,8 +540,9 @@ fn either_day() {
 }
 
 // Years with a sign, and leap years.
-fn years() {
+fn years(out: Stdout) {
     values(
+        out,
         b"UB1 -00002292300+00 +99907012200+00 202607012200\xC3\xA4+00\n\
           UB2 -00002292300+00 +99907012200+00 202607012200\xC3\xA4+00\n\
           UB3 -00002292300+00 +99907012200+00 202607012200\xC3\xA4+00\n\
@@ -535,8 +555,9 @@ fn years() {
 }
 
 // Dates and fields that are none.
-fn dates() {
+fn dates(out: Stdout) {
     values(
+        out,
         b"UB1 +026+7+12200+00 202607+12200+00 2026+7012200+00 202607012200xyz+00 20260701220000+00\n\
           UB1 202607012200+00+00 202604302200+00 202612312300+00\n\
           UB1 202613012300+00 202600012300+00 202601002300+00 202601322300+00 202604312200+00\n\
@@ -552,21 +573,24 @@ fn dates() {
 }
 
 // Conditions without an evaluator here.
-fn unregistered() {
+fn unregistered(out: Stdout) {
     conditions(
+        out,
         b"0",
         b"922 950 951 953 960 961 0902 UB4 UB0 UB UBx UB11 UB01 ub1 900 901 916 928 999 1000 1 500 \
           2000 1P +902 902. -902 90 9020 PUB1",
     );
     values(
+        out,
         b"950 41373559241\n\
           951 DE0000000000000000000000000000042",
     );
 }
 
 // The empty value.
-fn empty_values() {
+fn empty_values(out: Stdout) {
     conditions(
+        out,
         b"",
         b"902 903 904 905 906 907 908 909 910 912 913 914 915 917 918 925 926 927 929 930 931 932 \
           933 934 935 937 938 939 940 942 943 946 947 948 949 955 957 959 962 963 964 965 968 969 \
@@ -575,8 +599,9 @@ fn empty_values() {
 }
 
 // Whether a condition has an evaluator.
-fn registered_texts() {
+fn registered_texts(out: Stdout) {
     list(
+        out,
         Ask::Registered,
         b"902 903 904 905 906 907 908 909 910 912 913 914 915 917 918 925 926 927 929 930 931 932 \
           933 934 935 937 938 939 940 942 943 946 947 948 949 955 957 959 962 963 964 965 968 969 \
@@ -585,8 +610,9 @@ fn registered_texts() {
 }
 
 // The kinds of citations.
-fn kinds() {
+fn kinds(out: Stdout) {
     list(
+        out,
         Ask::Kind,
         b"1 5 +5 005 +005 499 +499 00000000000000000000000000499 500 899 0500 +899 900 901 999 \
           0902 +902 2000 2499 002000 UB1 UB3 UB4 UB UBx UBP UB5 UB1P0..1 1P 1P0..1 XP1 P 5P PUB1 \
@@ -597,8 +623,9 @@ fn kinds() {
 }
 
 // The bounds of Paket citations.
-fn pakete() {
+fn pakete(out: Stdout) {
     list(
+        out,
         Ask::Paket,
         b"1P 01P 12345678901234567890123P 1P0..1 10P1..1 2P0..n 3P5..2 1P+1..+2 1P+7..n 1P000..001 \
           0P0..0 1P1..2 1P18446744073709551615..18446744073709551615 1P0..018446744073709551615 \
@@ -610,8 +637,9 @@ fn pakete() {
 }
 
 // Status words.
-fn statuses() {
+fn statuses(out: Stdout) {
     list(
+        out,
         Ask::Status,
         b"Muss Soll Kann X M S K muss MUSS Mus Musss Mu MussX x m s k X[1] X1 XX MM Soll. KannKann \
           Y",
@@ -626,17 +654,18 @@ const RANGES: [u32; 28] = [
 ];
 
 // White space, and its neighbours.
-fn white_space() {
+fn white_space(out: Stdout) {
     let mut i = 0;
     while i + 1 < RANGES.len() {
-        white_between(RANGES[i], RANGES[i + 1]);
+        white_between(out, RANGES[i], RANGES[i + 1]);
         i += 2;
     }
 }
 
 // UTF-8, and how many characters it is.
-fn encodings() {
+fn encodings(out: Stdout) {
     list(
+        out,
         Ask::Utf8,
         b"a abc \xC3\xA4 \xE2\x88\xA7 \xF0\x9F\x98\x80 a\xC3\xA4\xE2\x88\xA7\xF0\x9F\x98\x80 \
           \xC2\x80 \xDF\xBF \xE0\xA0\x80 \xED\x9F\xBF \xEE\x80\x80 \xEF\xBF\xBF \xF0\x90\x80\x80 \
@@ -647,40 +676,41 @@ fn encodings() {
 }
 
 // The longest text and the longest value, 4,400 and 1,024 bytes, and one byte more.
-fn limits() {
-    around(Ask::Kind, b"", b' ', 4400);
-    around(Ask::Kind, b"", b'P', 4400);
-    around(Ask::Kind, b"", 0xFF, 4400);
-    around(Ask::Paket, b"", b'1', 4400);
-    around(Ask::Paket, b"", 0xFF, 4400);
-    around(Ask::Registered, b"", b'9', 4400);
-    around(Ask::Registered, b"", 0xFF, 4400);
-    around(Ask::Condition, b"0", b'9', 4400);
-    around(Ask::Condition, b"\xFF", b'9', 4400);
-    around(Ask::Condition, b"\xFF", 0xFF, 4400);
+fn limits(out: Stdout) {
+    around(out, Ask::Kind, b"", b' ', 4400);
+    around(out, Ask::Kind, b"", b'P', 4400);
+    around(out, Ask::Kind, b"", 0xFF, 4400);
+    around(out, Ask::Paket, b"", b'1', 4400);
+    around(out, Ask::Paket, b"", 0xFF, 4400);
+    around(out, Ask::Registered, b"", b'9', 4400);
+    around(out, Ask::Registered, b"", 0xFF, 4400);
+    around(out, Ask::Condition, b"0", b'9', 4400);
+    around(out, Ask::Condition, b"\xFF", b'9', 4400);
+    around(out, Ask::Condition, b"\xFF", 0xFF, 4400);
 }
 
 // The same of values, which are tested after the text.
-fn value_limits() {
-    around(Ask::Value, b"902", b'9', 1024);
-    around(Ask::Value, b"926", b'0', 1024);
-    around(Ask::Value, b"955", b'0', 1024);
-    around(Ask::Value, b"955", b'1', 1024);
-    around(Ask::Value, b"918", b'A', 1024);
-    around(Ask::Value, b"950", b'9', 1024);
-    around(Ask::Value, b"902", 0xFF, 1024);
-    around(Ask::Value, b"\xFF", b'9', 1024);
+fn value_limits(out: Stdout) {
+    around(out, Ask::Value, b"902", b'9', 1024);
+    around(out, Ask::Value, b"926", b'0', 1024);
+    around(out, Ask::Value, b"955", b'0', 1024);
+    around(out, Ask::Value, b"955", b'1', 1024);
+    around(out, Ask::Value, b"918", b'A', 1024);
+    around(out, Ask::Value, b"950", b'9', 1024);
+    around(out, Ask::Value, b"902", 0xFF, 1024);
+    around(out, Ask::Value, b"\xFF", b'9', 1024);
 }
 
 // A bool as a truth.
-fn truths() {
-    truth(false);
-    truth(true);
+fn truths(out: Stdout) {
+    truth(out, false);
+    truth(out, true);
 }
 
 // Texts and values with spaces.
-fn with_spaces() {
+fn with_spaces(out: Stdout) {
     values_with_spaces(
+        out,
         b"910| 5|5 \n\
           942|1-01-1-001 \n\
           905|   |    \n\
@@ -695,49 +725,52 @@ fn with_spaces() {
           1|\xFF",
     );
     lines(
+        out,
         Ask::Kind,
         b"\n 5\n5 \n5 5\n UB1\n1 [2\n \n\xC2\xA05\n1 P\nUB 1\n\xFF\nUB\xC3\n1P\xED\xA0\x80",
     );
     lines(
+        out,
         Ask::Paket,
         b"\n 1P\n1P \n1 P\n1P1.. 2\n1P 1..2\n\xFF\n1P\xC3",
     );
-    lines(Ask::Registered, b"\n 902\n\xFF");
-    lines(Ask::Status, b"\n X\nX \nMuss ");
-    asked(Ask::Utf8, b"", b"");
-    evaluate(b"918", b"A\n");
-    evaluate(b"", b"0");
-    evaluate(b"950", b"");
-    evaluate(b"", b"");
+    lines(out, Ask::Registered, b"\n 902\n\xFF");
+    lines(out, Ask::Status, b"\n X\nX \nMuss ");
+    asked(out, Ask::Utf8, b"", b"");
+    evaluate(out, b"918", b"A\n");
+    evaluate(out, b"", b"0");
+    evaluate(out, b"950", b"");
+    evaluate(out, b"", b"");
 }
 
-fn main() {
-    bounds_below();
-    bounds_above();
-    exact();
-    numbers();
-    fractions();
-    integers();
-    groups();
-    lengths();
-    upper_case();
-    shapes();
-    fields();
-    midnight();
-    gas_day();
-    either_day();
-    years();
-    dates();
-    unregistered();
-    empty_values();
-    registered_texts();
-    kinds();
-    pakete();
-    statuses();
-    white_space();
-    encodings();
-    limits();
-    value_limits();
-    truths();
-    with_spaces();
+fn main(rt: HostRuntime) {
+    let out = rt.stdout();
+    bounds_below(out);
+    bounds_above(out);
+    exact(out);
+    numbers(out);
+    fractions(out);
+    integers(out);
+    groups(out);
+    lengths(out);
+    upper_case(out);
+    shapes(out);
+    fields(out);
+    midnight(out);
+    gas_day(out);
+    either_day(out);
+    years(out);
+    dates(out);
+    unregistered(out);
+    empty_values(out);
+    registered_texts(out);
+    kinds(out);
+    pakete(out);
+    statuses(out);
+    white_space(out);
+    encodings(out);
+    limits(out);
+    value_limits(out);
+    truths(out);
+    with_spaces(out);
 }

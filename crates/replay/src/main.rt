@@ -36,8 +36,8 @@ ghost use Rattle.std.specs.Prelude.{◌≡◌, ◌+◌, ◌≤◌, ◌<◌, leng
 ghost use Rattle.replay.specs.Rooms.{room, HasRoom, Ready};
 ghost use Rattle.replay.specs.Held.{Held};
 
-use libc::{STDIN_FILENO, STDOUT_FILENO};
 use requests::respond;
+use std::io::{Stdin, Stdout};
 
 mod answers;
 mod requests;
@@ -72,12 +72,12 @@ struct Turn {
 }
 
 // Writes what waits.
-fn written(s: State, out: &[u8]) -> State
+fn written(to: Stdout, s: State, out: &[u8]) -> State
     requires { s.waiting ≤ length out.now }
     ensures { (result.len ≡ s.len) × (result.waiting ≡ 0) }
 {
     let waiting = s.waiting;
-    io::write_all(STDOUT_FILENO, text::head(out, waiting));
+    console::write_all(to, text::head(out, waiting));
     State {
         len: s.len,
         waiting: 0,
@@ -85,7 +85,7 @@ fn written(s: State, out: &[u8]) -> State
 }
 
 // Writes what waits where there is no room for an answer behind it.
-fn with_room(s: State, out: &[u8]) -> State
+fn with_room(to: Stdout, s: State, out: &[u8]) -> State
     requires { (s.waiting ≤ length out.now) × HasRoom out.now }
     ensures { (result.len ≡ s.len) × (result.waiting + room ≤ length out.now) }
 {
@@ -93,10 +93,11 @@ fn with_room(s: State, out: &[u8]) -> State
     if ROOM <= out.len() - waiting {
         return s;
     }
-    written(s, out)
+    written(to, s, out)
 }
 
 fn end_line(
+    to: Stdout,
     s: State,
     line: &[u8],
     first: &mut [u8],
@@ -107,7 +108,7 @@ fn end_line(
     requires { Ready first.old second.old third.old out.old × Held s line.now out.old }
     ensures { Held result line.now out.new }
 {
-    let state = with_room(s, out);
+    let state = with_room(to, s, out);
     let len = state.len;
     let from = state.waiting;
     let n = respond(
@@ -140,6 +141,7 @@ fn keep(b: u8, s: State, line: &mut [u8]) -> State
 }
 
 fn take_byte(
+    to: Stdout,
     b: u8,
     s: State,
     line: &mut [u8],
@@ -152,12 +154,13 @@ fn take_byte(
     ensures { Held result line.new out.new }
 {
     if b == b'\n' {
-        return end_line(s, line, first, second, third, out);
+        return end_line(to, s, line, first, second, third, out);
     }
     keep(b, s, line)
 }
 
 fn take_input(
+    to: Stdout,
     input: &[u8],
     s: State,
     line: &mut [u8],
@@ -172,7 +175,7 @@ fn take_input(
     let mut state = s;
     let mut i = 0;
     while i < input.len() {
-        state = take_byte(input[i], state, line, first, second, third, out);
+        state = take_byte(to, input[i], state, line, first, second, third, out);
         i += 1;
     }
     state
@@ -180,6 +183,8 @@ fn take_input(
 
 // One read, and the answers to the lines that it ends.
 fn read_some(
+    from: Stdin,
+    to: Stdout,
     s: State,
     input: &mut [u8],
     line: &mut [u8],
@@ -191,12 +196,11 @@ fn read_some(
     requires { Ready first.old second.old third.old out.old × Held s line.old out.old }
     ensures { Held result.state line.new out.new }
 {
-    let got = libc::read(STDIN_FILENO, input);
-    let n = io::count(got, input);
-    let state = take_input(&input[..n], s, line, first, second, third, out);
+    let n = console::read_some(from, input);
+    let state = take_input(to, &input[..n], s, line, first, second, third, out);
     Turn {
         more: 0 < n,
-        state: written(state, out),
+        state: written(to, state, out),
     }
 }
 
@@ -210,6 +214,8 @@ fn left(turns: u64, more: bool) -> u64
 
 // Nothing says that the input ends, so the turns are counted down from a number that no run uses up.
 fn answer_all(
+    from: Stdin,
+    to: Stdout,
     input: &mut [u8],
     line: &mut [u8],
     first: &mut [u8],
@@ -222,17 +228,19 @@ fn answer_all(
     let mut state = State { len: 0, waiting: 0 };
     let mut turns = u64::MAX;
     while turns > 0 {
-        let t = read_some(state, input, line, first, second, third, out);
+        let t = read_some(from, to, state, input, line, first, second, third, out);
         state = t.state;
         turns = left(turns, t.more);
     }
     if state.len > 0 {
-        let last = end_line(state, line, first, second, third, out);
-        written(last, out);
+        let last = end_line(to, state, line, first, second, third, out);
+        written(to, last, out);
     }
 }
 
-fn main() {
+fn main(rt: HostRuntime) {
+    let from = rt.stdin();
+    let to = rt.stdout();
     let mut input = [0u8; 65536];
     let mut line = [0u8; HELD];
     let mut first = [0u8; BYTES];
@@ -240,6 +248,8 @@ fn main() {
     let mut third = [0u8; BYTES];
     let mut out = [0u8; OUT];
     answer_all(
+        from,
+        to,
         &mut input,
         &mut line,
         &mut first,

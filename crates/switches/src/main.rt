@@ -7,7 +7,7 @@ ghost use Rattle.std.specs.Prelude.{◌+◌, ◌-◌, ◌*◌, ◌%◌, ◌≤�
 ghost use Rattle.switches.specs.Switches.{switching, agreeing, differing};
 
 use calendar::ERA_START;
-use libc::STDOUT_FILENO;
+use std::io::Stdout;
 
 // The number of the known Sunday, 29 March 2026: a multiple of 7, and so large that no day looked at is below 0.
 const KNOWN_SUNDAY: u32 = 7_000_000;
@@ -25,12 +25,12 @@ struct Seen {
     differ: u32,
 }
 
-fn say(s: &[u8]) {
-    io::write_all(STDOUT_FILENO, s);
+fn say(out: Stdout, s: &[u8]) {
+    console::write_all(out, s);
 }
 
-fn say_number(n: u64) {
-    io::print_decimal(STDOUT_FILENO, n);
+fn say_number(out: Stdout, n: u64) {
+    console::print_decimal(out, n);
 }
 
 // A year's number without its sign.
@@ -58,18 +58,18 @@ fn year_days(year: u16) -> u32
     366
 }
 
-fn say_differing(year: u16, month: u8, day: u8) {
+fn say_differing(out: Stdout, year: u16, month: u8, day: u8) {
     if year < ERA_START {
-        say(b"-");
+        say(out, b"-");
     }
-    say_number(unsigned(year) as u64);
-    say(b" month ");
-    say_number(month as u64);
-    say(b": counted ");
-    say_number(day as u64);
-    say(b", answered ");
-    say_number(calendar::last_sunday(year, month) as u64);
-    say(b"\n");
+    say_number(out, unsigned(year) as u64);
+    say(out, b" month ");
+    say_number(out, month as u64);
+    say(out, b": counted ");
+    say_number(out, day as u64);
+    say(out, b", answered ");
+    say_number(out, calendar::last_sunday(year, month) as u64);
+    say(out, b"\n");
 }
 
 // Whether summer time ends on the day at 01:00, or begins, where the month is not October.
@@ -101,7 +101,7 @@ fn agrees(year: u16, month: u8, day: u8) -> bool
 }
 
 // One date more: the last Sunday of a month whose 31st has this number. A date that differs is counted.
-fn look(seen: Seen, year: u16, month: u8, number: u32) -> Seen
+fn look(out: Stdout, seen: Seen, year: u16, month: u8, number: u32) -> Seen
     requires { (seen.dates ≤ 1000000) × (seen.differ ≤ seen.dates) }
     ensures { (result.dates ≡ seen.dates + 1) × ((result.differ ≡ seen.differ + differing year month (31 - number % 7)) × (result.differ ≤ result.dates)) }
 {
@@ -111,21 +111,27 @@ fn look(seen: Seen, year: u16, month: u8, number: u32) -> Seen
         let differ = seen.differ;
         return Seen { dates, differ };
     }
-    say_differing(year, month, day);
+    say_differing(out, year, month, day);
     let differ = seen.differ + 1;
     Seen { dates, differ }
 }
 
 // Both dates of a year more; 214 days after 31 March comes 31 October.
-fn look_at_year(seen: Seen, year: u16, march_31: u32) -> Seen
+fn look_at_year(out: Stdout, seen: Seen, year: u16, march_31: u32) -> Seen
     requires { (march_31 ≤ 100000000) × ((seen.dates ≤ 900000) × (seen.differ ≤ seen.dates)) }
     ensures { (result.dates ≡ seen.dates + 2) × ((result.differ ≡ seen.differ + differing year 3 (31 - march_31 % 7) + differing year 10 (31 - (march_31 + 214) % 7)) × (result.differ ≤ result.dates)) }
 {
-    look(look(seen, year, 3, march_31), year, 10, march_31 + 214)
+    look(
+        out,
+        look(out, seen, year, 3, march_31),
+        year,
+        10,
+        march_31 + 214,
+    )
 }
 
 // The 7,974 years from 2026 to 9999.
-fn look_forward() -> Seen
+fn look_forward(out: Stdout) -> Seen
     ensures { (result.dates ≡ 2 * 7974) × (result.differ ≤ result.dates) }
 {
     let mut seen = Seen {
@@ -135,7 +141,7 @@ fn look_forward() -> Seen
     let mut year = KNOWN_YEAR;
     let mut march_31 = KNOWN_SUNDAY + 2;
     while year <= LAST_YEAR {
-        seen = look_at_year(seen, year, march_31);
+        seen = look_at_year(out, seen, year, march_31);
         year += 1;
         march_31 += year_days(year);
     }
@@ -143,7 +149,7 @@ fn look_forward() -> Seen
 }
 
 // The 3,025 years from 2025 back to -999.
-fn look_back() -> Seen
+fn look_back(out: Stdout) -> Seen
     ensures { (result.dates ≡ 2 * 3025) × (result.differ ≤ result.dates) }
 {
     let mut seen = Seen {
@@ -155,16 +161,17 @@ fn look_back() -> Seen
     while FIRST_YEAR < year {
         march_31 -= year_days(year);
         year -= 1;
-        seen = look_at_year(seen, year, march_31);
+        seen = look_at_year(out, seen, year, march_31);
     }
     seen
 }
 
-fn main() {
-    let later = look_forward();
-    let earlier = look_back();
-    say_number((later.dates + earlier.dates) as u64);
-    say(b" switch dates of the years -999 to 9999, ");
-    say_number((later.differ + earlier.differ) as u64);
-    say(b" differ\n");
+fn main(rt: HostRuntime) {
+    let out = rt.stdout();
+    let later = look_forward(out);
+    let earlier = look_back(out);
+    say_number(out, (later.dates + earlier.dates) as u64);
+    say(out, b" switch dates of the years -999 to 9999, ");
+    say_number(out, (later.differ + earlier.differ) as u64);
+    say(out, b" differ\n");
 }

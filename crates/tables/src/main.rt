@@ -3,60 +3,61 @@
 
 #![tactic(auto)]
 
-use libc::STDOUT_FILENO;
 use status::StatusKind;
+use std::io::Stdout;
 
-fn say(s: &[u8]) {
-    io::write_all(STDOUT_FILENO, s);
+fn say(out: Stdout, s: &[u8]) {
+    console::write_all(out, s);
 }
 
-fn say_white(code: u32) {
+fn say_white(out: Stdout, code: u32) {
     if utf8::is_white(code) {
-        say(b"white ");
-        io::print_hex(STDOUT_FILENO, code as u64, 6);
-        say(b"\n");
+        say(out, b"white ");
+        console::print_hex(out, code as u64, 6);
+        say(out, b"\n");
     }
 }
 
-fn whites() {
+fn whites(out: Stdout) {
     let mut code: u32 = 0;
     while code < 0x110000 {
-        say_white(code);
+        say_white(out, code);
         code += 1;
     }
 }
 
 // A byte of a word; what fills it up is passed over.
-fn say_letter(b: u8) {
+fn say_letter(out: Stdout, b: u8) {
     if 0 < b {
-        say(&[b]);
+        say(out, &[b]);
     }
 }
 
-fn say_word(kind: StatusKind) {
+fn say_word(out: Stdout, kind: StatusKind) {
     let word = kind.as_str();
     let bytes = word.bytes;
-    say(b"word ");
-    say_letter(bytes[0]);
-    say_letter(bytes[1]);
-    say_letter(bytes[2]);
-    say_letter(bytes[3]);
-    say(b" ");
-    io::print_decimal(STDOUT_FILENO, kind.code() as u64);
+    say(out, b"word ");
+    say_letter(out, bytes[0]);
+    say_letter(out, bytes[1]);
+    say_letter(out, bytes[2]);
+    say_letter(out, bytes[3]);
+    say(out, b" ");
+    console::print_decimal(out, kind.code() as u64);
     if kind.is_receiver_checkable() {
-        say(b" receiver\n");
+        say(out, b" receiver\n");
     } else {
-        say(b" sender\n");
+        say(out, b" sender\n");
     }
 }
 
-fn main() {
-    whites();
-    say_word(StatusKind::Muss);
-    say_word(StatusKind::Soll);
-    say_word(StatusKind::Kann);
-    say_word(StatusKind::X);
-    say_word(StatusKind::M);
-    say_word(StatusKind::S);
-    say_word(StatusKind::K);
+fn main(rt: HostRuntime) {
+    let out = rt.stdout();
+    whites(out);
+    say_word(out, StatusKind::Muss);
+    say_word(out, StatusKind::Soll);
+    say_word(out, StatusKind::Kann);
+    say_word(out, StatusKind::X);
+    say_word(out, StatusKind::M);
+    say_word(out, StatusKind::S);
+    say_word(out, StatusKind::K);
 }
