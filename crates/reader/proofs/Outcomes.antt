@@ -12,7 +12,7 @@ use Rattle.utf8.specs.Limits.{text_limit, admitted, admit_said}
 use Rattle.utf8.specs.declared.Admitted.{Admitted}
 use Rattle.utf8.specs.declared.Admitted.TheVariants as admit
 use Rattle.utf8.proofs.Limits.{admitted_fine, admitted_refused}
-use Rattle.grammar.specs.Expr.{Expr, concat, citations}
+use Rattle.grammar.specs.Expr.{Expr, concat}
 use Rattle.grammar.specs.Rows.{rows}
 use Rattle.grammar.specs.Bytes.{bytes_of}
 use Rattle.grammar.specs.Bytes as bytes

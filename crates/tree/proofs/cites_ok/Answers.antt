@@ -1,7 +1,6 @@
 use native.Mathlib.Omega.{arith}
 use Prim.Native.Nat.{◌+◌, ◌-◌}
 use mathlib.Core.Path.{refl, sym, ◌∙◌}
-use borrow.Author.Tests.{not-true, not-false}
 use Rattle.tree.proofs.Plain.{plain_part}
 use Rattle.tree.proofs.Steps as steps
 use Rattle.tree.proofs.cites_ok.Goals as goal
@@ -18,7 +17,7 @@ text_ok-requires c = let a = c.args in
 
 pub returns-then-not-text_ok : goal.returns-then-not-text_ok
 returns-then-not-text_ok c = steps.cite_text _ _ _ _ _ (omega arith) c.get16-n.ensures.0
-    (sym (c.text_ok.ensures ∙ steps.part_size c.loop-left.p c.get16-n.result c.args.tree.now) ∙ not-true _ c.if-not-text_ok.true-raw)
+    (sym (c.text_ok.ensures ∙ steps.part_size c.loop-left.p c.get16-n.result c.args.tree.now) ∙ c.if-not-text_ok.true)
     ∙ c.loop-left.invariant.2
 
 pub loop-left-preserved : goal.loop-left-preserved
@@ -26,7 +25,7 @@ loop-left-preserved c = (
   omega arith,
   omega arith,
   steps.cite_next _ _ _ _ _ _ (omega arith) (omega (arith, c.get16-o.ensures.0, c.if-base-o.false, c.requires.0)) c.get16-n.ensures.0 refl (omega arith)
-      (sym (c.text_ok.ensures ∙ steps.part_size c.loop-left.p c.get16-n.result c.args.tree.now) ∙ not-false _ c.if-not-text_ok.false-raw)
+      (sym (c.text_ok.ensures ∙ steps.part_size c.loop-left.p c.get16-n.result c.args.tree.now) ∙ c.if-not-text_ok.false)
       ∙ c.loop-left.invariant.2,
   omega (arith, c.loop-left.invariant.3),
 )

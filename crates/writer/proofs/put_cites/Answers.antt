@@ -1,7 +1,7 @@
 use native.Mathlib.Omega.{arith}
 use Rattle.fields.proofs.Appends as appends
-use Prim.Native.Nat.{◌+◌, ◌-◌}
-use mathlib.Core.Path.{◌≡◌, refl, sym, ap}
+use Prim.Native.Nat.{◌+◌}
+use mathlib.Core.Path.{refl, sym, ap}
 use lib.ListN.{length}
 use Rattle.writer.proofs.Rows.{cites_none, texts_none, cites-next, size_first, size_next}
 use Rattle.writer.proofs.put_cites.Goals as goal
@@ -18,7 +18,7 @@ put16-w-requires c = let a = c.args in
 pub put16-w-requires-in-loop-i : goal.put16-w-requires-in-loop-i
 put16-w-requires-in-loop-i c = let a = c.args in
     let s = c.loop-i.invariant in
-    (omega (arith, c.requires.1, s.1, s.2, appends.ends_two _ c.put16-w.ensures, c.put16-w.auto), omega (arith, c.requires.2, ap length c.cut_at-size.ensures, size_next a.text.now a.places.now c.loop-i.i (omega (arith, c.requires.0)), size_first a.text.now a.places.now (c.loop-i.i + 1) a.c (omega arith)))
+    (omega (arith, c.requires.1, s.1, s.2, appends.ends_two _ c.put16-w.ensures), omega (arith, c.requires.2, ap length c.cut_at-size.ensures, size_next a.text.now a.places.now c.loop-i.i (omega (arith, c.requires.0)), size_first a.text.now a.places.now (c.loop-i.i + 1) a.c (omega arith)))
 
 pub overflow_add-o : goal.overflow_add-o
 overflow_add-o c = let a = c.args in
@@ -30,15 +30,9 @@ loop-i-preserved c = let a = c.args in
     let s = c.loop-i.invariant in
     let l = c.requires.0 in (
       omega arith,
-      omega (arith, s.1, c.put16-w.auto, c.put16-w-in-loop-i.auto),
+      omega (arith, s.1),
       omega (arith, s.2, appends.ends_two _ c.put16-w.ensures, appends.ends_two _ c.put16-w-in-loop-i.ensures),
       omega (arith, s.3, ap length c.cut_at-size.ensures, size_next a.text.now a.places.now c.loop-i.i (omega (arith, c.requires.0))),
       appends.same (cites-next a.text.now a.places.now c.loop-i.i _ _ (omega (arith, c.requires.0)) s.3 (ap length c.cut_at-size.ensures))
           (appends.both s.4 (appends.both c.put16-w.ensures c.put16-w-in-loop-i.ensures)),
     )
-
-pub shape_of-out : goal.shape_of-out
-shape_of-out c = c.loop-i.invariant.1
-
-pub returns : goal.returns
-returns c = let e : c.loop-i.i ≡ c.args.c = omega (arith, c.loop-i.invariant.0) in rw e at c.loop-i.invariant.4

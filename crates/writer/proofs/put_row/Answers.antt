@@ -6,10 +6,10 @@ use Rattle.writer.proofs.Rows.{row-bytes}
 use Rattle.writer.proofs.put_row.Goals as goal
 
 pub put16-b-requires : goal.put16-b-requires
-put16-b-requires c = (omega (arith, c.requires, appends.ends_two _ c.put16-a.ensures, c.put16-a.auto), c.low16-2.ensures.1)
+put16-b-requires c = (omega (arith, c.requires, appends.ends_two _ c.put16-a.ensures), c.low16-2.ensures.1)
 
 pub put16-requires : goal.put16-requires
-put16-requires c = (omega (arith, c.requires, appends.ends_two _ c.put16-a.ensures, c.put16-a.auto, appends.ends_two _ c.put16-b.ensures, c.put16-b.auto), c.low16-3.ensures.1)
+put16-requires c = (omega (arith, c.requires, appends.ends_two _ c.put16-a.ensures, appends.ends_two _ c.put16-b.ensures), c.low16-3.ensures.1)
 
 pub returns : goal.returns
 returns c = appends.same (sym (row-bytes c.args.v))

@@ -1,7 +1,7 @@
 use native.Mathlib.Omega.{arith}
 use Rattle.fields.proofs.Appends as appends
-use Prim.Native.Nat.{◌+◌, ◌-◌}
-use mathlib.Core.Path.{◌≡◌, refl, sym, ap}
+use Prim.Native.Nat.{◌+◌}
+use mathlib.Core.Path.{refl, sym, ap}
 use lib.ListN.{length}
 use Rattle.writer.proofs.Rows.{texts_none, texts-next, size_first, size_next}
 use Rattle.writer.proofs.put_texts.Goals as goal
@@ -19,13 +19,7 @@ pub loop-i-preserved : goal.loop-i-preserved
 loop-i-preserved c = let a = c.args in
     let s = c.loop-i.invariant in (
       omega arith,
-      omega (arith, s.1, c.put_text-w.auto),
+      omega (arith, s.1),
       appends.same (texts-next a.text.now a.places.now c.loop-i.i (omega (arith, c.requires.0)))
           (appends.both s.2 (appends.same c.cut_at-part.ensures c.put_text-w.ensures)),
     )
-
-pub shape_of-out : goal.shape_of-out
-shape_of-out c = c.loop-i.invariant.1
-
-pub returns : goal.returns
-returns c = let e : c.loop-i.i ≡ c.args.c = omega (arith, c.loop-i.invariant.0) in rw e at c.loop-i.invariant.2
