@@ -11,7 +11,8 @@ use Rattle.refusal.specs.Result.{Result, ok, refused, unless, then, map_ok}
 use Rattle.refusal.specs.declared.Refusal.TheVariants.{NoRoom}
 use Rattle.citation.specs.declared.Truth.{Truth}
 use Rattle.citation.specs.Truths.{truth_number}
-use Rattle.grammar.specs.Outcome.{Outcome, answer_of, written_of, StatusSaid, parse_answer, status_answer, answer_fits, written_fits}
+use Rattle.grammar.specs.Outcome.{Outcome, answer_of, written_of, StatusSaid, parse_answer, status_answer}
+use Rattle.grammar.proofs.Outcome.{answer_fits, written_fits}
 use Rattle.semantics.specs.Answers.{truth_answer, violations_answer}
 use Rattle.ahb.specs.Numbers.{accepted_from, answer_number, expression, status, expression_number, status_number, said_number, read_number, verdict_number}
 use Rattle.ahb.specs.Answers.{said_by, truth_written, read_answer, verdicts_answer}

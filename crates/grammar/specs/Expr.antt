@@ -2,9 +2,11 @@
 use Rattle.std.specs.Prelude.{◌≡◌, refl, List, [], ◌∷◌, ◌++◌, ℕ, length}
 use Rattle.std.proofs.Common.{sym, append_assoc}
 
+
 infixr 50 ◌◂◌
 infixr 50 ◌⧺◌
 infixl 45 ◌▸◌
+
 -- the operators ∧, ∨ and ⊻
 pub data Op : Type 0 where
   And Or Xor : Op
@@ -77,44 +79,6 @@ count e = length (citations e)
 unfoldable pub concat : List (List ℕ) → List ℕ
 concat [] = []
 concat (t ∷ ts) = t ++ concat ts
-
--- none after operands
-pub append_none : (es : Exprs) → es ⧺ none ≡ es
-unfolding ◌⧺◌
-append_none none = refl
-append_none (more e es) = rw (append_none es)
-
--- three lists of operands
-pub appends_assoc : (a b c : Exprs) → (a ⧺ b) ⧺ c ≡ a ⧺ (b ⧺ c)
-unfolding ◌⧺◌
-appends_assoc none b c = refl
-appends_assoc (more e a) b c = rw (appends_assoc a b c)
-
--- operands before others
-pub some_append : (a b : Exprs) → Some a → Some (a ⧺ b)
-unfolding ◌⧺◌
-some_append (more e a) b s = tt
-some_append none b s = elim s [ ]
-
--- one operand after others
-pub some_more : (es : Exprs) (e : Expr) → Some (es ▸ e)
-unfolding ◌⧺◌
-some_more none e = tt
-some_more (more f es) e = tt
-
--- some operands before some
-pub two_append : (a b : Exprs) → Some a → Some b → Two (a ⧺ b)
-unfolding ◌⧺◌
-two_append (more e none) (more f b) s s' = tt
-two_append (more e (more f a)) b s s' = tt
-two_append none b s s' = elim s [ ]
-two_append (more e none) none s s' = elim s' [ ]
-
--- wide operands before wide ones
-pub wides_append : (a b : Exprs) → Wides a → Wides b → Wides (a ⧺ b)
-unfolding ◌⧺◌
-wides_append none b v w = w
-wides_append (more e a) b v w = (v.0, wides_append a b v.1 w)
 
 -- operands before others cite first
 pub citations_append : (a b : Exprs) → citations_of (a ⧺ b) ≡ citations_of a ++ citations_of b

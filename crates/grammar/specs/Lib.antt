@@ -7,11 +7,8 @@ pub mod Flat
 pub mod Readable
 pub mod Steps
 pub mod Round
-pub mod Cites
 pub mod LexPrint
 pub mod Reading
-pub mod Bounds
-pub mod PrintRead
 pub mod Rows
 pub mod Bytes
 pub mod Shape
@@ -21,9 +18,5 @@ pub mod Status
 pub mod StatusLaws
 pub mod Sentences
 pub mod Quoted
-pub mod Examples
-pub mod Sizes
-pub mod Never
 pub mod Theorems
-pub mod Known
 pub mod Outcome

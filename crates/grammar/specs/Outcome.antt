@@ -1,18 +1,18 @@
 -- What a function that writes into a lent buffer answers, and the buffer's bytes afterwards. Assumes nothing.
-use Rattle.std.specs.Prelude.{◌≡◌, List, [], ◌++◌, Bool, ℕ, ◌≤◌, ◌<◌, leb, length, take}
+use Rattle.std.specs.Prelude.{◌≡◌, List, [], ◌++◌, Bool, ℕ, ◌≤◌, leb, length}
 use Rattle.std.proofs.Math.Path.{refl, ap}
-use Rattle.std.proofs.Common.{sym, ◌∙◌}
+use Rattle.std.proofs.Common.{sym}
 use Rattle.std.proofs.Math.Bool.{true, false, cond}
 use Rattle.std.proofs.Math.ListN.{drop}
-use Rattle.std.proofs.Math.Seq.{take-append_seam}
-use borrow.Author.Tests.{leb-true, le-leb, lt-leb}
-use Rattle.refusal.specs.Result.{Result, ok, refused, refuse, unless, then, map_ok, refused≢ok, unless_ok}
+use borrow.Author.Tests.{leb-true}
+use Rattle.refusal.specs.Result.{Result, ok, refused, unless, then, map_ok, refused≢ok, unless_ok}
 use Rattle.refusal.specs.declared.Refusal.TheVariants.{NoRoom}
 use Rattle.status.specs.declared.StatusKind.{StatusKind}
 use Rattle.grammar.specs.Print.{printed}
 use Rattle.grammar.specs.Reading.{reading}
 use Rattle.grammar.specs.Status.{Stated, alone, stated, status_reading}
 use Rattle.grammar.specs.Bytes.{bytes_of, tree_of}
+
 
 -- what is answered, and the bytes that are written
 pub record Written (A : Type 0) : Type 0 where
@@ -62,31 +62,6 @@ stated_bytes (stated k e) = with_status k (bytes_of e)
 -- `Status::parse`: the word, and the tree after it
 unfoldable pub status_answer : List ℕ → Outcome StatusSaid
 status_answer s = map_ok stated_bytes (status_reading s)
-
-module _ {A : Type 0} (w : Written A) where
-  -- the answer for a buffer that is long enough
-  pub answer_fits : (n : ℕ) → length w.bytes ≤ n → answer_of (ok w) n ≡ ok w.answer
-  unfolding answer_of then
-  answer_fits n h = rw (le-leb (length w.bytes) n h)
-
-  -- the bytes of such a buffer
-  pub written_fits : (old : List ℕ) → length w.bytes ≤ length old → written_of (ok w) old ≡ w.bytes ++ drop (length w.bytes) old
-  unfolding written_of
-  written_fits old h = rw (le-leb (length w.bytes) (length old) h)
-
-  -- the answer for one that is not
-  pub answer_short : (n : ℕ) → n < length w.bytes → answer_of (ok w) n ≡ refuse NoRoom
-  unfolding answer_of then
-  answer_short n h = rw (lt-leb (length w.bytes) n h)
-
-  -- the bytes of such a buffer: the old ones
-  pub written_short : (old : List ℕ) → length old < length w.bytes → written_of (ok w) old ≡ old
-  unfolding written_of
-  written_short old h = rw (lt-leb (length w.bytes) (length old) h)
-
-  -- what is read back from a buffer that is long enough
-  pub written_back : (old : List ℕ) → length w.bytes ≤ length old → take (length w.bytes) (written_of (ok w) old) ≡ w.bytes
-  written_back old h = ap (take (length w.bytes)) (written_fits old h) ∙ take-append_seam w.bytes (drop (length w.bytes) old)
 
 module _ {A : Type 0} where
   -- what was accepted: the outcome with this answer and some bytes, for which there is room

@@ -1,88 +1,10 @@
 -- What holds of reading, printing, flat trees and tree bytes. Assumes nothing.
-use Rattle.std.specs.Prelude.{◌≡◌, List, ◌↔◌, true, ℕ, ◌+◌, ◌*◌, ◌≤◌, length}
-use Rattle.std.proofs.Common.{sym, ap, ◌∙◌, arith}
-use Rattle.refusal.specs.Result.{ok, refuse}
-use Rattle.refusal.specs.declared.Refusal.TheVariants.{Empty}
-use Rattle.utf8.specs.Utf8.{decode}
+use Rattle.std.specs.Prelude.{◌≡◌, List, ℕ}
+use Rattle.refusal.specs.Result.{ok}
 use Rattle.status.specs.declared.StatusKind.{StatusKind}
-use Rattle.grammar.specs.Expr.{Expr, citations, count, concat}
-use Rattle.grammar.specs.Lex.{lex}
-use Rattle.grammar.specs.Print.{in_tokens, print, printed}
-use Rattle.grammar.specs.Flat.{flat, citations_flat, wide_flat}
-use Rattle.grammar.specs.Readable.{Readable}
-use Rattle.grammar.specs.Reading.{shallow, reading, reading_given, Fits, node_limit, print_limit}
-use Rattle.grammar.specs.LexPrint.{print_lexed}
-use Rattle.grammar.specs.Bounds as bounds
-use Rattle.grammar.specs.PrintRead.{printed-read, alike}
+use Rattle.grammar.specs.Expr.{Expr}
+use Rattle.grammar.specs.Reading.{reading}
 use Rattle.grammar.specs.Status.{stated, status_reading}
-use Rattle.grammar.specs.StatusLaws.{status_states}
-use Rattle.grammar.specs.Never as never
-use Rattle.grammar.specs.Rows.{span}
-use Rattle.grammar.specs.Bytes.{head_size, row_size, cite_size, bytes_of, is_tree, tree_of, tree_limit}
-use Rattle.grammar.specs.Pack.{IsBytes}
-use Rattle.grammar.specs.Trees as trees
-use Rattle.grammar.specs.Sizes as sizes
-
--- For every expression that fits, read or not.
-
--- the flat tree fits
-pub flat_fits : (e : Expr) → Fits e → Fits (flat e)
-flat_fits e f = record {
-  wide = wide_flat e f.wide;
-  few = rw (citations_flat e) f.few;
-  small = rw (citations_flat e) f.small;
-  citable = rw (citations_flat e) f.citable;
-}
-
--- no print is longer than 4,343 bytes
-pub print_short : (e : Expr) → Fits e → length (printed e) ≤ print_limit
-print_short = bounds.print_short
-
--- a print is at most 254 parentheses deep
-pub print_shallow : (e : Expr) → Fits e → (lex (decode (printed e)) ≡ ok (print in_tokens e)) × (shallow 254 0 (print in_tokens e) ≡ true)
-print_shallow e f = (print_lexed e f.citable, bounds.print_shallow 254 e f.wide (omega (arith, f.few)))
-
--- the bytes of an expression are a tree, and determine it
-pub tree_of_bytes : (e : Expr) → Fits e → tree_of (bytes_of e) ≡ ok e
-tree_of_bytes = trees.tree_of_bytes
-
--- the bytes of an expression pass the test
-pub is_tree_lem : (e : Expr) → Fits e → is_tree (bytes_of e) ≡ true
-is_tree_lem = trees.is_tree_lem
-
--- what bytes are a tree of, they are the bytes of, and it fits
-pub tree_is_bytes : (b : List ℕ) → IsBytes b → (e : Expr) → tree_of b ≡ ok e → (bytes_of e ≡ b) × Fits e
-tree_is_bytes = trees.tree_is_bytes
-
--- bytes are a tree of an expression exactly if it fits and they are its bytes: the encoder and the limits say what a tree is
-pub tree_exactly : (b : List ℕ) → IsBytes b → (e : Expr) → (tree_of b ≡ ok e) ↔ (Fits e × (bytes_of e ≡ b))
-tree_exactly b i e = (
-  λ h. let t = tree_is_bytes b i e h in (t.1, t.0),
-  λ h. ap tree_of (sym h.1) ∙ tree_of_bytes e h.0,
-)
-
--- the length of tree bytes
-pub bytes-length : (e : Expr) → length (bytes_of e) ≡ head_size + row_size * span e + cite_size * count e + length (concat (citations e))
-bytes-length = sizes.bytes-length
-
--- at most 511 nodes
-pub few-nodes : (e : Expr) → Fits e → span e ≤ node_limit
-few-nodes = sizes.few-nodes
-
--- at most 6,150 bytes
-pub few_bytes : (e : Expr) → Fits e → length (bytes_of e) ≤ tree_limit
-few_bytes = sizes.few_bytes
-
--- expressions with the same bytes are the same
-pub bytes_alike : (a b : Expr) → Fits a → Fits b → bytes_of a ≡ bytes_of b → a ≡ b
-bytes_alike a b fa fb h = let same : ok a ≡ ok b = sym (tree_of_bytes a fa) ∙ ap tree_of h ∙ tree_of_bytes b fb in cc
-
--- a tree is the bytes of exactly one expression that fits
-pub tree_of_one : (b : List ℕ) → IsBytes b → is_tree b ≡ true
-    → (e : Expr) × Fits e × (bytes_of e ≡ b) × ((f : Expr) → Fits f → bytes_of f ≡ b → f ≡ e)
-tree_of_one b i h =
-    let s = trees.sound b i h in
-    (s.expr, s.fits, s.bytes, λ f k g. bytes_alike f s.expr k s.fits (g ∙ sym s.bytes))
 
 -- For what was read, as an expression or after a status word.
 
@@ -90,32 +12,3 @@ tree_of_one b i h =
 pub data WasRead : Expr → Type 0 where
   as_expression : (s : List ℕ) (e : Expr) → reading s ≡ ok e → WasRead e
   after_status : (s : List ℕ) (k : StatusKind) (e : Expr) → status_reading s ≡ ok (stated k e) → WasRead e
-
--- what follows a status word is read as an expression is
-pub was_reading : (e : Expr) → WasRead e → (s : List ℕ) × (reading s ≡ ok e)
-was_reading e (as_expression s f h) = (s, h)
-was_reading e (after_status s k f h) = let w = status_states s k f h in (_, w.reads)
-
--- what was read is readable: two operands or more in inner nodes, the first operand of an operator no node of the same operator
-pub read_readable : (e : Expr) → WasRead e → Readable e
-read_readable e w = let r = was_reading e w in (reading_given r.0 e r.1).0
-
--- what was read fits, so it has tree bytes
-pub read_fits : (e : Expr) → WasRead e → Fits e
-read_fits e w = let r = was_reading e w in (reading_given r.0 e r.1).1
-
--- the print of what was read reads as its flat tree
-pub read-printed : (e : Expr) → WasRead e → reading (printed e) ≡ ok (flat e)
-read-printed e w = printed-read e (read_readable e w) (read_fits e w)
-
--- prints of what was read are alike exactly when the bytes of the flat trees are
-pub printed_alike : (a b : Expr) → WasRead a → WasRead b → (printed a ≡ printed b) ↔ (bytes_of (flat a) ≡ bytes_of (flat b))
-printed_alike a b v w =
-    let same = alike a b (read_readable a v) (read_fits a v) (read_readable b w) (read_fits b w) in (
-      λ h. ap bytes_of (same.0 h),
-      λ h. same.1 (bytes_alike (flat a) (flat b) (flat_fits a (read_fits a v)) (flat_fits b (read_fits b w)) h),
-    )
-
--- a status is never turned back with 6
-pub status_never_empty : (s : List ℕ) → status_reading s ≡ refuse Empty → ⊥
-status_never_empty = never.status_never_empty

@@ -10,7 +10,8 @@ use Rattle.utf8.specs.Utf8.{is_utf8, decode, encode, encode_char}
 use Rattle.utf8.specs.White.{is_white}
 use Rattle.utf8.proofs.Sound.{utf8_sound}
 use Rattle.grammar.specs.Lex.{cited, cite_end, blank}
-use Rattle.grammar.specs.Citable.{holds, holds_none}
+use Rattle.grammar.specs.Citable.{holds}
+use Rattle.grammar.proofs.Citable.{holds_none}
 use Rattle.lexer.specs.Runs.{leading, run_end, up_to, from_on}
 use Rattle.lexer.specs.Scan.{halt, meets, inner_scan, scan, scan_in}
 use Rattle.lexer.specs.State.{Closing}

@@ -22,9 +22,10 @@ use Rattle.status.specs.declared.StatusKind.{StatusKind}
 use Rattle.status.specs.Status.{kind_among, kind_of_word}
 use Rattle.grammar.specs.Expr.{concat}
 use Rattle.grammar.specs.Lex.{blank_char, Tok, cited, op, opening, closing, lex, texts}
-use Rattle.grammar.specs.Reading.{citation_limit, open_limit, some_token, few, shallow, few_says, expression}
+use Rattle.grammar.specs.Reading.{citation_limit, open_limit, some_token, few, shallow, expression}
+use Rattle.grammar.proofs.Reading.{few_says}
 use Rattle.grammar.specs.Status.{ended, words_from, words, spaced, joined, alone, stated, after_word, of_words}
-use Rattle.grammar.specs.StatusLaws.{rest_size, rest_scalars}
+use Rattle.grammar.proofs.StatusLaws.{rest_size, rest_scalars}
 use Rattle.lexer.specs.Runs.{leading, trailing, run_end, first_word}
 use Rattle.lexer.specs.Tokens.{kinds_of, counted, lexed_said, limited, tokenized, cuts}
 use Rattle.lexer.specs.Scan.{scanned, places_in, scan_lex, scanned-all}

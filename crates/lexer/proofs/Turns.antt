@@ -17,7 +17,7 @@ use Rattle.grammar.specs.Expr.{concat}
 use Rattle.grammar.specs.Lex.{Tok, cited, op, opening, closing, also, lex, texts}
 use Rattle.grammar.specs.Rows.{cite_kind}
 use Rattle.grammar.specs.LexPrint.{before}
-use Rattle.grammar.specs.Bounds.{concat_append}
+use Rattle.grammar.proofs.Bounds.{concat_append}
 use Rattle.lexer.specs.Tokens.{kind_of, kinds_of, deeper, depth, counted, lexed_said, limited, tokenized, counts_limited, placed}
 use Rattle.lexer.specs.Scan.{Scan, halt, meets, scan, scanned, places_in, outcome, scan_lex}
 use Rattle.lexer.specs.State.{Ahead, Marked, Cites, reading, State, Rests, Turned, Written, Ends}

@@ -20,7 +20,8 @@ use Rattle.grammar.specs.Expr.{Expr, count}
 use Rattle.grammar.specs.Reading.{citation_limit, Fits}
 use Rattle.grammar.specs.Status.{Stated, alone, stated, words, of_words, status_reading}
 use Rattle.grammar.specs.Bytes.{bytes_of}
-use Rattle.grammar.specs.Theorems.{after_status, read_fits, tree_of_bytes}
+use Rattle.grammar.specs.Theorems.{after_status}
+use Rattle.grammar.proofs.Theorems.{read_fits, tree_of_bytes}
 use Rattle.semantics.specs.Truth.{truth}
 use Rattle.semantics.specs.Presence.{answers_fit}
 use Rattle.semantics.specs.Answers.{presence_by, eval_and_truth_answer}

@@ -8,7 +8,7 @@ use native.Mathlib.Omega.{arith}
 use lib.ListN.{length, get_or, drop, length-append}
 use lib.Seq.{drop-drop, drop-append_seam, get_or-drop}
 use Rattle.grammar.specs.Expr.{Expr, Exprs, cite, Then, join, none, more, citations, citations_of, count, concat}
-use Rattle.grammar.specs.Bounds.{concat_append}
+use Rattle.grammar.proofs.Bounds.{concat_append}
 use Rattle.grammar.specs.Lex.{blank_char}
 use Rattle.grammar.specs.Reading.{citation_limit, Fits}
 use Rattle.grammar.specs.Bytes.{two_bytes, field, cites, texts_in}
@@ -16,7 +16,7 @@ use Rattle.grammar.specs.Pack.{got}
 use Rattle.semantics.specs.Rules.{is_false}
 use Rattle.semantics.specs.Truth.{Counts, truth_with}
 use Rattle.semantics.specs.Violations.{violated, violated_of, violations_with, number_bytes}
-use Rattle.semantics.specs.Sizes.{violated_few}
+use Rattle.semantics.proofs.Sizes.{violated_few}
 use Rattle.fields.specs.Appended.{Appended}
 use Rattle.fields.proofs.Appends.{nothing, both, same}
 use Rattle.tree.specs.Walk.{text_at}

@@ -19,13 +19,15 @@ use Rattle.grammar.specs.Print.{printed}
 use Rattle.grammar.specs.Reading.{citation_limit, Fits, print_limit}
 use Rattle.grammar.specs.Status.{Stated, alone, stated, status_reading}
 use Rattle.grammar.specs.Bytes.{cites, texts_in, is_tree, tree_at, bytes_of, tree_limit}
-use Rattle.grammar.specs.Theorems.{after_status, read_fits, print_short, few_bytes, is_tree_lem, tree_of_bytes}
-use Rattle.grammar.specs.Outcome.{Written, Outcome, answer_of, written_of, with_length, display_answer, word_alone, with_tree, stated_bytes, status_answer, answer_fits, written_fits, answer_short, written_short}
+use Rattle.grammar.specs.Theorems.{after_status}
+use Rattle.grammar.proofs.Theorems.{read_fits, print_short, few_bytes, is_tree_lem, tree_of_bytes}
+use Rattle.grammar.specs.Outcome.{Written, Outcome, answer_of, written_of, with_length, display_answer, word_alone, with_tree, stated_bytes, status_answer}
+use Rattle.grammar.proofs.Outcome.{answer_fits, written_fits, answer_short, written_short}
 use Rattle.semantics.specs.Presence.{answers_fit}
 use Rattle.semantics.specs.Truth.{counts_on, truth}
 use Rattle.semantics.specs.Violations.{violations, number_bytes}
 use Rattle.semantics.specs.Packages.{paket_size, pakete}
-use Rattle.semantics.specs.Sizes.{numbers_length, rows_length}
+use Rattle.semantics.proofs.Sizes.{numbers_length, rows_length}
 use Rattle.semantics.specs.Answers.{presence_by, numbered, rowed, pakete_answer, violations_answer, eval_and_truth_answer}
 use Rattle.fields.specs.Appended.{Appended}
 use Rattle.fields.proofs.Appends.{same, whole}

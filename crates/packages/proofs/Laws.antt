@@ -14,11 +14,12 @@ use Rattle.citation.specs.Kinds.{kind_of}
 use Rattle.citation.specs.declared.Paket.{Paket}
 use Rattle.citation.specs.Pakete.{paket_of}
 use Rattle.grammar.specs.Expr.{concat}
-use Rattle.grammar.specs.Bounds.{concat_append}
+use Rattle.grammar.proofs.Bounds.{concat_append}
 use Rattle.grammar.specs.Bytes.{two_bytes, cites, texts_in, is_tree}
-use Rattle.grammar.specs.Outcome.{answer_of, written_of, answer_fits, written_fits, answer_short, written_short}
+use Rattle.grammar.specs.Outcome.{answer_of, written_of}
+use Rattle.grammar.proofs.Outcome.{answer_fits, written_fits, answer_short, written_short}
 use Rattle.semantics.specs.Packages.{is_paket, paket_size, bytes_up_to, mark_of, paket_bytes, read_row, row_of, rows_of, pakete}
-use Rattle.semantics.specs.Sizes.{row-length, rows_length}
+use Rattle.semantics.proofs.Sizes.{row-length, rows_length}
 use Rattle.semantics.specs.Answers.{rowed, pakete_answer}
 use Rattle.fields.specs.Appended.{Appended}
 use Rattle.fields.proofs.Appends.{nothing, both, same, whole}

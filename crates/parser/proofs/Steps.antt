@@ -7,10 +7,12 @@ use native.Mathlib.Omega.{arith}
 use Rattle.refusal.specs.Result.{ok, refuse}
 use Rattle.refusal.specs.declared.Refusal.{Refusal}
 use Rattle.refusal.specs.declared.Refusal.TheVariants.{MissingOperand, Parentheses}
-use Rattle.grammar.specs.Expr.{Op, And, Or, Xor, Expr, Exprs, cite, join, none, more, ◌◂◌, ◌⧺◌, ◌▸◌, some_more}
+use Rattle.grammar.specs.Expr.{Op, And, Or, Xor, Expr, Exprs, cite, join, none, more, ◌◂◌, ◌⧺◌, ◌▸◌}
+use Rattle.grammar.proofs.Expr.{some_more}
 use Rattle.grammar.specs.Lex.{Tok, cited, op, opening, closing}
 use Rattle.grammar.specs.Parse.{same, gather, lead, chain, whole, led, grow, Left, start, after, Opens, top, within, value, read, parse}
-use Rattle.grammar.specs.Steps.{Ends, resume, settled}
+use Rattle.grammar.specs.Steps.{Ends, resume}
+use Rattle.grammar.proofs.Steps.{settled}
 use Rattle.grammar.specs.Rows.{op_kind}
 use Rattle.parser.specs.Tokens.{op_ahead, operand_ahead}
 use Rattle.parser.specs.Reading.{Due, Stops, Atom, NoAtom, Run, Jux, NoJux, Waits, Links, Chain, NoChain}

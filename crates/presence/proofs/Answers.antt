@@ -12,7 +12,7 @@ use Rattle.text.specs.Bytes.{all}
 use Rattle.refusal.specs.Result.{refuse, then}
 use Rattle.refusal.specs.declared.Refusal.TheVariants.{FailedAnswer, NotATree, WrongAnswers}
 use Rattle.grammar.specs.Expr.{count}
-use Rattle.grammar.specs.Sizes.{few-nodes}
+use Rattle.grammar.proofs.Sizes.{few-nodes}
 use Rattle.grammar.specs.Bytes.{nodes, cites, is_tree, tree_at}
 use Rattle.tree.specs.Walk.{first_at}
 use Rattle.tree.proofs.Walks.{root, no-tree}

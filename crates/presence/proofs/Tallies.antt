@@ -12,7 +12,7 @@ use Rattle.grammar.specs.Rows.{op_kind, children}
 use Rattle.tree.specs.Walk.{node_kind}
 use Rattle.semantics.specs.Rules.{is_false, is_unknown, is_true, any, and_rule, or_rule, two_true, xor_rule}
 use Rattle.semantics.specs.Presence.{presence_with, values_with, dropped, mixes, before, presence, values}
-use Rattle.semantics.specs.Sentences.{or_mixes, xor_mixes, values-dropped, values_kept}
+use Rattle.semantics.proofs.Sentences.{or_mixes, xor_mixes, values-dropped, values_kept}
 use Rattle.presence.specs.Marks.{choosing}
 use Rattle.presence.specs.declared.Tally.{Tally}
 use Rattle.presence.specs.Tallies.{no_tally, added, anded, ored, xored, ruled, tallied, finished}

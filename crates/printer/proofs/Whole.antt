@@ -10,10 +10,11 @@ use Rattle.refusal.specs.declared.Refusal.TheVariants.{NotATree, NoRoom}
 use Rattle.grammar.specs.Print.{printed}
 use Rattle.grammar.specs.Expr.{concat}
 use Rattle.grammar.specs.Bytes.{is_tree, tree_at, cites, cites_at, texts_at}
-use Rattle.grammar.specs.Outcome.{answer_of, written_of, with_length, display_answer, answer_fits, answer_short, written_fits, written_short}
-use Rattle.grammar.specs.Theorems.{print_short, bytes-length}
-use Rattle.grammar.specs.Sizes.{print_within}
-use Rattle.grammar.specs.Trees.{tests}
+use Rattle.grammar.specs.Outcome.{answer_of, written_of, with_length, display_answer}
+use Rattle.grammar.proofs.Outcome.{answer_fits, answer_short, written_fits, written_short}
+use Rattle.grammar.proofs.Theorems.{print_short, bytes-length}
+use Rattle.grammar.proofs.Sizes.{print_within}
+use Rattle.grammar.proofs.Trees.{tests}
 use Rattle.tree.proofs.Cites.{texts-stand}
 use Rattle.tree.proofs.Walks.{root, no-tree}
 use Rattle.grammar.specs.Reading.{print_limit}

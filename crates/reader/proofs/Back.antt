@@ -6,7 +6,7 @@ use native.Mathlib.Omega.{arith}
 use lib.ListN.{length, length-append}
 use Rattle.grammar.specs.Expr.{Op, And, Or, Xor, Expr, Exprs, cite, Then, join, none, more, citations, citations_of, count}
 use Rattle.grammar.specs.Rows.{Row, row, op_kind, many, node, rows, rows_of, span, spans, rows_spans}
-use Rattle.grammar.specs.Shape.{span_some}
+use Rattle.grammar.proofs.Shape.{span_some}
 use Rattle.parser.specs.Packed.{pack, packed}
 use Rattle.writer.specs.Unpacked.{row_of, unpacked}
 use Rattle.writer.proofs.Laws.{row_back}

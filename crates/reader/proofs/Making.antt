@@ -15,8 +15,9 @@ use Rattle.grammar.specs.Expr.{Expr, concat, citations}
 use Rattle.grammar.specs.Lex.{texts}
 use Rattle.grammar.specs.Rows.{rows, span, rows_span}
 use Rattle.grammar.specs.Parse.{parse}
-use Rattle.grammar.specs.Cites.{parse-cites}
-use Rattle.grammar.specs.Reading.{citation_limit, expression, expression_given}
+use Rattle.grammar.proofs.Cites.{parse-cites}
+use Rattle.grammar.specs.Reading.{citation_limit, expression}
+use Rattle.grammar.proofs.Reading.{expression_given}
 use Rattle.lexer.specs.Tokens.{counted, lexed_said, tokenized}
 use Rattle.lexer.specs.declared.Lexed.{Lexed}
 use Rattle.lexer.specs.declared.Lexed.TheVariants as lex

@@ -17,8 +17,9 @@ use Rattle.grammar.specs.Rows.{rows}
 use Rattle.grammar.specs.Bytes.{bytes_of}
 use Rattle.grammar.specs.Bytes as bytes
 use Rattle.grammar.specs.Reading.{expression, reading, node_limit, citation_limit, cited_limit}
-use Rattle.grammar.specs.Outcome.{answer_of, written_of, with_length, parse_answer, answer_fits, answer_short, written_fits, written_short}
-use Rattle.grammar.specs.Theorems.{bytes-length, few-nodes}
+use Rattle.grammar.specs.Outcome.{answer_of, written_of, with_length, parse_answer}
+use Rattle.grammar.proofs.Outcome.{answer_fits, answer_short, written_fits, written_short}
+use Rattle.grammar.proofs.Theorems.{bytes-length, few-nodes}
 use Rattle.fields.specs.Appended.{Appended}
 use Rattle.fields.proofs.Appends as appends
 use Rattle.lexer.specs.Tokens.{cuts}

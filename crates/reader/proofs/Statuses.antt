@@ -24,7 +24,8 @@ use Rattle.grammar.specs.Expr.{Expr}
 use Rattle.grammar.specs.Bytes.{bytes_of}
 use Rattle.grammar.specs.Reading.{expression}
 use Rattle.grammar.specs.Status.{Stated, alone, stated, words, joined, after_word, of_words, status_reading}
-use Rattle.grammar.specs.Outcome.{answer_of, written_of, StatusSaid, word_alone, with_tree, stated_bytes, status_answer, answer_fits, written_fits}
+use Rattle.grammar.specs.Outcome.{answer_of, written_of, StatusSaid, word_alone, with_tree, stated_bytes, status_answer}
+use Rattle.grammar.proofs.Outcome.{answer_fits, written_fits}
 use Rattle.lexer.specs.Runs.{first_word}
 use Rattle.lexer.specs.declared.Span.{Span}
 use Rattle.lexer.proofs.Told.{joined_bytes, joined_told, after_told, first_told}

@@ -6,10 +6,5 @@ pub mod Kept
 pub mod Violations
 pub mod Packages
 pub mod Answers
-pub mod Examples
 pub mod Sentences
-pub mod Sizes
-pub mod Flat
 pub mod Evaluated
-pub mod Unknown
-pub mod Known

@@ -28,16 +28,18 @@ use Rattle.grammar.specs.Print.{printed}
 use Rattle.grammar.specs.Reading.{citation_limit, cited_limit, some_token, few, tree, expression, reading}
 use Rattle.grammar.specs.Status.{words, joined, after_word, of_words, status_reading}
 use Rattle.grammar.specs.Bytes.{tree_of}
-use Rattle.grammar.specs.Known.{admitted-among, tree_of_known}
+use Rattle.grammar.proofs.Known.{admitted-among, tree_of_known}
 use Rattle.grammar.specs.Outcome as outcome
-use Rattle.grammar.specs.Outcome.{Written, Outcome, answer_of, written_of, with_length, parse_answer, display_answer, status_answer, written_fits}
+use Rattle.grammar.specs.Outcome.{Written, Outcome, answer_of, written_of, with_length, parse_answer, display_answer, status_answer}
+use Rattle.grammar.proofs.Outcome.{written_fits}
 use Rattle.semantics.specs.Presence.{answers_fit}
 use Rattle.semantics.specs.Packages.{pakete}
 use Rattle.semantics.specs.Truth.{truth}
 use Rattle.semantics.specs.Answers.{presence_by, eval_answer, truth_answer, violations_answer, eval_and_truth_answer, rowed, pakete_answer}
-use Rattle.semantics.specs.Known.{presence_known, eval_known, truth_known}
+use Rattle.semantics.proofs.Known.{presence_known, eval_known, truth_known}
 use Rattle.tree.specs.Cited.{cited_place, cited_answer}
-use Rattle.ahb.specs.Sizes.{Short, ShortStatus, Few, answer_among, parse-among, status_among, violations-among}
+use Rattle.ahb.specs.Sizes.{Short, ShortStatus, Few}
+use Rattle.ahb.proofs.Sizes.{answer_among, parse-among, status_among, violations-among}
 
 -- Lent memory.
 

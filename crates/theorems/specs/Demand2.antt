@@ -29,9 +29,9 @@ use Rattle.grammar.specs.Expr.{Expr}
 use Rattle.grammar.specs.Reading.{Fits}
 use Rattle.grammar.specs.Bytes.{bytes_of, tree_of}
 use Rattle.grammar.specs.Pack.{IsBytes}
-use Rattle.grammar.specs.Theorems as grammar
+use Rattle.grammar.proofs.Theorems as grammar
 use Rattle.semantics.specs.Rules.{is_false, is_unknown, any, and_rule, or_rule, xor_rule}
-use Rattle.semantics.specs.Sentences as sentences
+use Rattle.semantics.proofs.Sentences as sentences
 use Rattle.semantics.specs.Sentences.{only_neutral, filled, or_of_filled, xor_of_filled}
 
 -- bytes are the tree of an expression exactly if it fits the limits and they are its bytes

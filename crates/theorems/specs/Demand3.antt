@@ -6,17 +6,20 @@ use Rattle.refusal.specs.declared.Refusal.TheVariants.{NoRoom}
 use Rattle.status.specs.declared.StatusKind.{StatusKind}
 use Rattle.grammar.specs.Expr.{Expr}
 use Rattle.grammar.specs.Print.{in_bytes, printed}
-use Rattle.grammar.specs.Flat.{flat, print_flat}
+use Rattle.grammar.specs.Flat.{flat}
+use Rattle.grammar.proofs.Flat.{print_flat}
 use Rattle.grammar.specs.Reading.{reading, Fits}
 use Rattle.grammar.specs.Status.{Stated, alone, stated, status_reading}
 use Rattle.grammar.specs.Bytes.{bytes_of, tree_of}
-use Rattle.grammar.specs.Theorems as grammar
-use Rattle.grammar.specs.Theorems.{WasRead, as_expression, after_status, read_fits, flat_fits, tree_of_bytes}
+use Rattle.grammar.proofs.Theorems as grammar
+use Rattle.grammar.specs.Theorems.{WasRead, as_expression, after_status}
+use Rattle.grammar.proofs.Theorems.{read_fits, flat_fits, tree_of_bytes}
 use Rattle.semantics.specs.Presence.{oracle_of}
-use Rattle.grammar.specs.Outcome.{Written, Outcome, answer_of, written_of, with_length, parse_answer, display_answer, StatusSaid, word_alone, with_tree, with_status, stated_bytes, status_answer, answer_fits, written_fits, answer_short, written_short, written_back, accepted}
+use Rattle.grammar.specs.Outcome.{Written, Outcome, answer_of, written_of, with_length, parse_answer, display_answer, StatusSaid, word_alone, with_tree, with_status, stated_bytes, status_answer, accepted}
+use Rattle.grammar.proofs.Outcome.{answer_fits, written_fits, answer_short, written_short, written_back}
 use Rattle.semantics.specs.Truth.{counts_on}
 use Rattle.semantics.specs.Answers.{eval_answer, truth_answer, violations_answer, eval_and_truth_answer, pakete_answer}
-use Rattle.semantics.specs.Flat as flats
+use Rattle.semantics.proofs.Flat as flats
 
 -- Where the trees come from.
 

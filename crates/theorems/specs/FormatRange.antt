@@ -38,7 +38,9 @@ use Rattle.semantics.specs.Truth.{is_judged, Counts, truth_with, cited_truth, co
 use Rattle.semantics.specs.Violations.{violated, violated_of, violations_with, violations}
 use Rattle.semantics.specs.Packages.{is_paket, read_row, rows_of, pakete}
 use Rattle.semantics.specs.Pairs as pairs
-use Rattle.semantics.specs.Kept.{Kept, truth_kept}
+use Rattle.semantics.proofs.Pairs.{same_is, same_refl}
+use Rattle.semantics.specs.Kept.{Kept}
+use Rattle.semantics.proofs.Kept.{truth_kept}
 use Rattle.semantics.specs.Answers.{numbered, rowed, pakete_answer, eval_answer, truth_answer, violations_answer, eval_and_truth_answer}
 
 -- The kinds, if Format begins at a given number.
@@ -228,8 +230,8 @@ settled : (v w : Truth) → settles v w ≡ true → Settled v w
 settled v w = by (pairs.same v w) refl
   where
     by : (x : Bool) → pairs.same v w ≡ x → (x || (pairs.same v Unknown && pairs.same w True)) ≡ true → Settled v w
-    by true e h = inl (sym (pairs.same_is v w e))
-    by false e h = let s = and_both (pairs.same v Unknown) (pairs.same w True) h in inr (pairs.same_is v Unknown s.0, pairs.same_is w True s.1)
+    by true e h = inl (sym (same_is v w e))
+    by false e h = let s = and_both (pairs.same v Unknown) (pairs.same w True) h in inr (same_is v Unknown s.0, same_is w True s.1)
 
 module _ (value : List ℕ) where
   counts_settle : (n : ℕ) (t : List ℕ) → settles (counts_from 900 value n t) (counts_on value n t) ≡ true
@@ -237,7 +239,7 @@ module _ (value : List ℕ) where
   counts_settle n t = by (kind_moves t)
     where
       by : Moves t (kind_from 900 t) (kind_of t) → settles (counts_from 900 value n t) (counts_on value n t) ≡ true
-      by (inl is) = rw (is, pairs.same_refl (counts_on value n t))
+      by (inl is) = rw (is, same_refl (counts_on value n t))
       by (inr m) = rw (m.1, m.2, unregistered_900 t value m.0)
 
   truths_settle : (n : ℕ) (e : Expr) → settles (truth_with (counts_from 900 value) n e) (truth_with (counts_on value) n e) ≡ true

@@ -17,15 +17,15 @@ use Rattle.grammar.specs.Reading.{shallow, node_limit, print_limit}
 use Rattle.grammar.specs.Rows.{span}
 use Rattle.grammar.specs.Bytes.{bytes_of, is_tree, tree_at, tree_of, tree_limit}
 use Rattle.grammar.specs.Pack.{IsBytes}
-use Rattle.grammar.specs.Theorems as grammar
+use Rattle.grammar.proofs.Theorems as grammar
 use Rattle.semantics.specs.Rules.{is_unknown, is_neutral}
 use Rattle.semantics.specs.Presence.{failed, oracle_of, answers_fit}
-use Rattle.semantics.specs.Evaluated as evaluated
+use Rattle.semantics.proofs.Evaluated as evaluated
 use Rattle.semantics.specs.Evaluated.{evaluates}
 use Rattle.semantics.specs.Truth.{truth}
-use Rattle.semantics.specs.Sentences.{answered_unknown}
-use Rattle.semantics.specs.Unknown as unknown
-use Rattle.semantics.specs.Unknown.{UnregisteredAmong}
+use Rattle.semantics.proofs.Sentences.{answered_unknown}
+use Rattle.semantics.proofs.Unknown as unknown
+use Rattle.semantics.proofs.Unknown.{UnregisteredAmong}
 use Rattle.semantics.specs.Answers.{presence_by, eval_answer, truth_answer}
 
 -- the sizes of a tree, and of its print

@@ -11,7 +11,7 @@ use Rattle.refusal.specs.Result.{ok, refuse, map_ok, unless_ok}
 use Rattle.refusal.specs.declared.Refusal.TheVariants.{NotATree}
 use Rattle.grammar.specs.Expr.{Expr, citations, count}
 use Rattle.grammar.specs.Bytes.{cites, is_tree, tree_at, tree_of}
-use Rattle.grammar.specs.Steps.{ok_same}
+use Rattle.grammar.proofs.Steps.{ok_same}
 use Rattle.tree.specs.Walk.{text_at, text_from, text_size}
 use Rattle.tree.specs.Cited.{place_of, cited_place, cited_answer}
 use Rattle.tree.proofs.Cites.{text_from_lem, text_size_lem, text_is}

@@ -12,7 +12,7 @@ use Rattle.laws.specs.Tests.{and_both}
 use Rattle.grammar.specs.Expr.{concat}
 use Rattle.grammar.specs.Citable.{citable, AllCitable}
 use Rattle.grammar.specs.Bytes.{head_size, row_size, cite_size, field, nodes, cites, cites_at, texts_at, cited_from, texts_in, cites_ok, is_tree}
-use Rattle.grammar.specs.Trees.{tests}
+use Rattle.grammar.proofs.Trees.{tests}
 use Rattle.tree.specs.Walk.{text_at, text_from, text_size}
 
 -- what the test says of the first of the citation rows from a byte on

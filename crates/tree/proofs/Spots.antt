@@ -7,11 +7,12 @@ use native.Mathlib.Omega.{arith}
 use lib.ListN.{length, drop, length-append, length-drop}
 use Rattle.laws.specs.Tests.{and_both}
 use Rattle.grammar.specs.Expr.{Expr, Exprs, cite, Then, join, none, more, ◌◂◌, ◌⧺◌, Wide, Wides, citations, citations_of, count}
-use Rattle.grammar.specs.Rows.{Row, row, many, node, rows, rows_of, span, children, first, build, rows_span, rows_spans, builds, below, next-tree}
+use Rattle.grammar.specs.Rows.{Row, row, many, node, rows, rows_of, span, children, first, build, rows_span, rows_spans, below, next-tree}
+use Rattle.grammar.proofs.Rows.{builds}
 use Rattle.grammar.specs.Bytes.{head_size, row_size, field, nodes, cites, cites_at, texts_at, row_at, rows_from, rows_in, texts_in, row_ok, counted, rows_ok, is_tree, forest_at, tree_at}
 use Rattle.grammar.specs.Shape.{Shape, shape}
 use Rattle.grammar.specs.Pack.{rows_length, texts-length}
-use Rattle.grammar.specs.Trees.{tests}
+use Rattle.grammar.proofs.Trees.{tests}
 use Rattle.tree.specs.Walk.{row_from, node_kind, number_at, first_at}
 use Rattle.tree.proofs.Steps.{drop-from}
 

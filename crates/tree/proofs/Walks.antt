@@ -1,4 +1,5 @@
 -- Walking a tree by its rows: the root, a citation's row, and the loop over a node's children. Assumes nothing.
+use Rattle.grammar.proofs.Rows.{firsts-all, built}
 use mathlib.Core.Path.{◌≡◌, refl, sym, ap, ◌∙◌, subst}
 use mathlib.Core.List.{List, [], ◌∷◌, ◌++◌}
 use mathlib.Core.Bool.{Bool, true, false}
@@ -11,13 +12,14 @@ use lib.Seq.{get_or-drop}
 use borrow.Author.Tests.{ltb-true, ltb-false}
 use Rattle.refusal.specs.Result.{ok, refuse}
 use Rattle.refusal.specs.declared.Refusal.TheVariants.{NotATree}
-use Rattle.grammar.specs.Expr.{And, Or, Xor, Expr, Exprs, cite, Then, join, none, more, ◌◂◌, ◌⧺◌, citations, citations_of, count, citations_append, append_none, appends_assoc}
+use Rattle.grammar.specs.Expr.{And, Or, Xor, Expr, Exprs, cite, Then, join, none, more, ◌◂◌, ◌⧺◌, citations, citations_of, count, citations_append}
+use Rattle.grammar.proofs.Expr.{append_none, appends_assoc}
 use Rattle.grammar.specs.Reading.{Fits}
-use Rattle.grammar.specs.Rows.{op_kind, many, span, spans, firsts, children, build, firsts-all, rows_span, built}
+use Rattle.grammar.specs.Rows.{op_kind, many, span, spans, firsts, children, build, rows_span}
 use Rattle.grammar.specs.Bytes.{head_size, nodes, cites, cites_at, texts_at, rows_from, rows_in, texts_in, is_tree, forest_at, tree_at, tree_of}
-use Rattle.grammar.specs.Shape.{span_some}
+use Rattle.grammar.proofs.Shape.{span_some}
 use Rattle.grammar.specs.Pack.{rows_length}
-use Rattle.grammar.specs.Trees.{tests, rooted_in}
+use Rattle.grammar.proofs.Trees.{tests, rooted_in}
 use Rattle.tree.specs.Walk.{node_kind, number_at, first_at, text_at}
 use Rattle.tree.proofs.Spots.{spot, found, tree-first, row_number, texts-count}
 use Rattle.tree.proofs.Cites.{texts-stand}

@@ -19,13 +19,14 @@ use Rattle.formats.specs.Table.{verdict}
 use Rattle.formats.specs.Answers.{verdict_truth}
 use Rattle.grammar.specs.Expr.{And, Or, Xor, Expr, Exprs, cite, Then, join, none, ◌◂◌, ◌⧺◌, citations, citations_of, count, citations_append}
 use Rattle.grammar.specs.Rows.{op_kind, span, firsts, children}
-use Rattle.grammar.specs.Sizes.{few-nodes}
+use Rattle.grammar.proofs.Sizes.{few-nodes}
 use Rattle.grammar.specs.Bytes.{two_bytes, nodes, cites, is_tree, forest_at, tree_at}
-use Rattle.grammar.specs.Outcome.{Outcome, answer_of, written_of, answer_fits, written_fits, answer_short, written_short}
+use Rattle.grammar.specs.Outcome.{Outcome, answer_of, written_of}
+use Rattle.grammar.proofs.Outcome.{answer_fits, written_fits, answer_short, written_short}
 use Rattle.semantics.specs.Rules.{is_false, is_unknown, is_true, any, and_rule, or_rule}
 use Rattle.semantics.specs.Truth.{is_judged, truth_with, truths_with, cited_truth, counts_on, truth}
 use Rattle.semantics.specs.Violations.{violated, violated_of, violations_with, violations, number_bytes}
-use Rattle.semantics.specs.Sizes.{numbers_length, violated_few}
+use Rattle.semantics.proofs.Sizes.{numbers_length, violated_few}
 use Rattle.semantics.specs.Presence.{answers_fit}
 use Rattle.semantics.specs.Answers.{presence_by, numbered, truth_answer, violations_answer, eval_and_truth_answer}
 use Rattle.presence.specs.declared.EvalAnswer.{EvalAnswer}

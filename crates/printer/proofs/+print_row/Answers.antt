@@ -1,6 +1,6 @@
 use native.Mathlib.Omega.{arith}
 use mathlib.Core.Path.{sym}
-use Rattle.grammar.specs.Trees.{tests}
+use Rattle.grammar.proofs.Trees.{tests}
 use Rattle.fields.proofs.Appends as appends
 use Rattle.printer.proofs.Walks as walks
 use borrow.Author.Rules.{rules}

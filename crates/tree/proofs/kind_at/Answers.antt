@@ -1,5 +1,5 @@
 use native.Mathlib.Omega.{arith}
-use Rattle.grammar.specs.Trees.{tests}
+use Rattle.grammar.proofs.Trees.{tests}
 use mathlib.Core.Path.{sym, ap, ◌∙◌}
 use Rattle.tree.specs.Walk.{node_kind}
 use Rattle.tree.proofs.Spots.{spot}

@@ -1,5 +1,5 @@
 use native.Mathlib.Omega.{arith}
-use Rattle.grammar.specs.Trees.{tests}
+use Rattle.grammar.proofs.Trees.{tests}
 use Rattle.tree.proofs.node_count.Goals as goal
 
 pub get16-requires : goal.get16-requires

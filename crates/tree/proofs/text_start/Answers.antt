@@ -1,5 +1,5 @@
 use native.Mathlib.Omega.{arith}
-use Rattle.grammar.specs.Trees.{tests}
+use Rattle.grammar.proofs.Trees.{tests}
 use Rattle.tree.proofs.Cites.{from-read, text_inside}
 use Rattle.tree.proofs.text_start.Goals as goal
 

@@ -6,8 +6,10 @@ use Rattle.refusal.specs.declared.Refusal.TheVariants.{EmptyCondition}
 use Rattle.utf8.specs.Utf8.{encode, Scalar, Scalars}
 use Rattle.grammar.specs.Expr.{Op, Expr, Exprs, cite, Then, join, none, more, ◌◂◌, ◌▸◌, citations, citations_of, citations_append}
 use Rattle.grammar.specs.Lex.{Tok, cited, op, opening, closing, cite_end, blank, Part, bracket, sign, left, right, space, stray, part, also, outer, inner, lex, inside, texts}
-use Rattle.grammar.specs.Citable.{holds, holds_none, AllCitable, citable_encoded}
+use Rattle.grammar.specs.Citable.{holds, AllCitable}
+use Rattle.grammar.proofs.Citable.{holds_none, citable_encoded}
 use Rattle.grammar.specs.Parse.{same, gather, Side, lead, chain, whole, led, grow, Left, start, after, Opens, top, within, value, read, parse}
+
 
 gather-cites : (es : Exprs) → citations (gather es) ≡ citations_of es
 unfolding gather citations

@@ -10,11 +10,12 @@ use Rattle.citation.specs.declared.Truth.TheVariants.{False, Unknown, True, Neut
 use Rattle.citation.specs.Truths.{truth_number}
 use Rattle.grammar.specs.Expr.{And, Or, Xor, Expr, Exprs, cite, Then, join, none, more, count}
 use Rattle.grammar.specs.Bytes.{tree_of}
-use Rattle.grammar.specs.Known.{admitted-among, tree_of_known}
+use Rattle.grammar.proofs.Known.{admitted-among, tree_of_known}
 use Rattle.semantics.specs.Rules.{and_rule, or_rule, xor_rule}
 use Rattle.semantics.specs.Presence.{presence_with, failed, mixes, before, valued, dropped, presence, values, answered, oracle_of, answers_fit}
 use Rattle.semantics.specs.Truth.{truth}
 use Rattle.semantics.specs.Answers.{presence_by, eval_answer, truth_answer}
+
 
 answered_known : (b : ℕ) → Known (answered b)
 unfolding answered

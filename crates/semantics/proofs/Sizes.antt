@@ -7,11 +7,12 @@ use Rattle.citation.specs.declared.Paket.{Paket}
 use Rattle.citation.specs.Pakete.{paket_of}
 use Rattle.grammar.specs.Expr.{Expr, Exprs, cite, Then, join, none, more, citations, citations_of, count, concat}
 use Rattle.grammar.specs.Bytes.{two_bytes}
-use Rattle.grammar.specs.Bounds.{concat_append}
+use Rattle.grammar.proofs.Bounds.{concat_append}
 use Rattle.semantics.specs.Rules.{is_false}
 use Rattle.semantics.specs.Truth.{Counts}
 use Rattle.semantics.specs.Violations.{violated, violated_of, number_bytes}
 use Rattle.semantics.specs.Packages.{is_paket, paket_size, bytes_up_to, paket_bytes, read_row, row_of, rows_of}
+
 
 -- two bytes a number
 pub numbers_length : (ns : List ℕ) → length (number_bytes ns) ≡ 2 * length ns

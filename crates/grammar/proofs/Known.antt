@@ -1,7 +1,7 @@
 -- Every refusal of reading and of the test for a tree is one of the table. Assumes nothing.
-use Rattle.std.specs.Prelude.{◌≡◌, refl, List, [], ◌∷◌, ◌++◌, Bool, true, false, ℕ, eqb, leb, length}
+use Rattle.std.specs.Prelude.{refl, List, [], ◌∷◌, ◌++◌, Bool, true, false, ℕ, eqb, leb, length}
 use Rattle.laws.specs.Tests.{cond_both}
-use Rattle.refusal.specs.Result.{Result, ok, refused, refuse, unless}
+use Rattle.refusal.specs.Result.{Result, ok, refuse, unless}
 use Rattle.refusal.specs.Known.{Among, Known, unless-among, map_known, then_known}
 use Rattle.refusal.specs.declared.Refusal.TheVariants.{Stray, Unterminated, EmptyCondition, MissingOperand, Parentheses, Empty, NoStatusWord, TooLong, NotUtf8, TooManyCitations, TooDeep, NotATree}
 use Rattle.utf8.specs.Utf8.{is_utf8, decode, encode}
@@ -15,6 +15,7 @@ use Rattle.grammar.specs.Parse.{whole, Left, start, after, Opens, top, within, v
 use Rattle.grammar.specs.Reading.{some_token, few, shallow, open_limit, tree, expression, reading}
 use Rattle.grammar.specs.Status.{words, joined, stated, after_word, of_words, status_reading}
 use Rattle.grammar.specs.Bytes.{is_tree, tree_at, tree_of}
+
 
 module _ {A : Type 0} (P : A → Type 0) where
   -- 10 and 11 are of the table

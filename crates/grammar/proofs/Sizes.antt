@@ -5,10 +5,11 @@ use Rattle.grammar.specs.Expr.{Expr, Exprs, cite, Then, join, none, more, Wide, 
 use Rattle.grammar.specs.Reading.{Fits, node_limit}
 use Rattle.grammar.specs.Rows.{many, rows, span, spans, rows_span}
 use Rattle.grammar.specs.Bytes.{head_size, row_size, cite_size, bytes_of, tree_limit}
-use Rattle.grammar.specs.Bounds.{print_room}
+use Rattle.grammar.proofs.Bounds.{print_room}
 use Rattle.grammar.specs.Print.{printed}
-use Rattle.grammar.specs.Shape.{many_two}
-use Rattle.grammar.specs.Trees.{packed-length}
+use Rattle.grammar.proofs.Shape.{many_two}
+use Rattle.grammar.proofs.Trees.{packed-length}
+
 
 mutual
   unfolding span citations many

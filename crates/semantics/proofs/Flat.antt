@@ -10,13 +10,16 @@ use Rattle.refusal.specs.Result.{Result, ok, refused, map_ok}
 use Rattle.citation.specs.declared.Truth.{Truth}
 use Rattle.citation.specs.declared.Truth.TheVariants.{Neutral}
 use Rattle.grammar.specs.Expr.{And, Or, Xor, Expr, Exprs, cite, Then, join, none, more, ◌◂◌, ◌⧺◌, citations, citations_of, count}
-use Rattle.grammar.specs.Flat.{operands, flat, flats, spliced, citations_flat}
+use Rattle.grammar.specs.Flat.{operands, flat, flats, spliced}
+use Rattle.grammar.proofs.Flat.{citations_flat}
 use Rattle.semantics.specs.Rules.{any, and_rule}
 use Rattle.semantics.specs.Presence.{some_gate_with, some_free_with, some_gate, some_free, before, presence_with, values_with, presence, values, answers_fit}
 use Rattle.semantics.specs.Truth.{Counts, format_rule, truth_with, truths_with}
 use Rattle.semantics.specs.Violations.{violated, violated_of, violations_with}
-use Rattle.semantics.specs.Pairs.{pair, rule_none, rule_more, and_assoc, and_neutral, neutral_and}
+use Rattle.semantics.specs.Pairs.{pair}
+use Rattle.semantics.proofs.Pairs.{rule_none, rule_more, and_assoc, and_neutral, neutral_and}
 use Rattle.semantics.specs.Packages.{pakete}
+
 
 -- Then and And of two answers: the first refusal met, else the truths joined. What a Then inside a Then says counts as what its operands say, since this is associative
 both_said : Result Truth → Result Truth → Result Truth

@@ -18,8 +18,10 @@ use Rattle.formats.specs.Answers.{verdict_truth}
 use Rattle.grammar.specs.Expr.{And, Or, Xor, Expr, Exprs, cite, Then, join, none, more, Two, Wide, Wides, citations, citations_of, count}
 use Rattle.semantics.specs.Rules.{is_false, is_unknown, is_true, is_neutral, any, and_rule, or_rule, two_true, xor_rule}
 use Rattle.semantics.specs.Presence.{presence_with, dropped, mixes, choice, before, valued, presence, values}
-use Rattle.semantics.specs.Evaluated.{evaluates, evaluates_of, first_evaluated, rest_evaluated}
+use Rattle.semantics.specs.Evaluated.{evaluates, evaluates_of}
+use Rattle.semantics.proofs.Evaluated.{first_evaluated, rest_evaluated}
 use Rattle.semantics.specs.Truth.{is_judged, truth_with, truths_with, cited_truth, counts_on}
+
 
 is_unknown_lem : (v : Truth) → is_unknown v ≡ true → v ≡ Unknown
 is_unknown_lem False h = absurd (false≢true h)

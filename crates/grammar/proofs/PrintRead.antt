@@ -1,7 +1,7 @@
 -- Reading what was printed. Assumes nothing.
 use Rattle.std.specs.Prelude.{◌≡◌, refl, List, [], ◌∷◌, ◌↔◌, true, length}
 use Rattle.std.proofs.Common.{sym, ap, ◌∙◌, arith, le-leb}
-use Rattle.refusal.specs.Result.{ok, refused, refused≢ok, then}
+use Rattle.refusal.specs.Result.{ok, refused≢ok, then}
 use Rattle.utf8.specs.Limits.{text_limit}
 use Rattle.utf8.specs.Utf8.{decode}
 use Rattle.utf8.proofs.Limits.{fits}
@@ -9,12 +9,15 @@ use Rattle.grammar.specs.Expr.{Expr}
 use Rattle.grammar.specs.Lex.{Tok}
 use Rattle.grammar.specs.Parse.{parse, read}
 use Rattle.grammar.specs.Print.{in_tokens, in_bytes, print, printed}
-use Rattle.grammar.specs.Flat.{flat, print_flat}
+use Rattle.grammar.specs.Flat.{flat}
+use Rattle.grammar.proofs.Flat.{print_flat}
 use Rattle.grammar.specs.Readable.{Readable}
-use Rattle.grammar.specs.Round.{round}
-use Rattle.grammar.specs.LexPrint.{print_lexes, print_lexed}
-use Rattle.grammar.specs.Reading.{some_token, few, tree, expression, reading, Fits, fits_few, open_limit}
-use Rattle.grammar.specs.Bounds.{print_shallow, texts_print, print_short}
+use Rattle.grammar.proofs.Round.{round}
+use Rattle.grammar.proofs.LexPrint.{print_lexes, print_lexed}
+use Rattle.grammar.specs.Reading.{some_token, few, tree, expression, reading, Fits, open_limit}
+use Rattle.grammar.proofs.Reading.{fits_few}
+use Rattle.grammar.proofs.Bounds.{print_shallow, texts_print, print_short}
+
 
 parse_some : (ts : List Tok) (e : Expr) → parse ts ≡ ok e → some_token ts ≡ true
 unfolding parse some_token read

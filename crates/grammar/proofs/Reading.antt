@@ -1,0 +1,61 @@
+-- Reading a text as an expression, with the refusals in their order. Assumes nothing.
+use Rattle.std.specs.Prelude.{◌≡◌, refl, List, true, ℕ, ◌-◌, ◌≤◌, leb, length}
+use Rattle.std.proofs.Common.{leb-true, le-leb}
+use Rattle.laws.specs.Tests.{and_both}
+use Rattle.refusal.specs.Result.{Result, ok, refused, then, refused≢ok, unless_ok}
+use Rattle.refusal.specs.declared.Refusal.TheVariants.{Empty, TooManyCitations, TooDeep}
+use Rattle.utf8.specs.Utf8.{decode, Scalars}
+use Rattle.utf8.specs.Limits.{text_limit, admitted}
+use Rattle.utf8.proofs.Sound.{utf8_sound}
+use Rattle.utf8.proofs.Limits.{admitted_ok}
+use Rattle.grammar.specs.Expr.{Expr, concat, citations, count}
+use Rattle.grammar.specs.Lex.{Tok, lex, texts}
+use Rattle.grammar.specs.Readable.{Readable}
+use Rattle.grammar.proofs.Readable.{readable_wide, parse_readable}
+use Rattle.grammar.proofs.Cites.{parse-cites, lexed_citable}
+use Rattle.grammar.specs.Reading.{citation_limit, cited_limit, open_limit, some_token, few, shallow, tree, expression, reading, Fits, Gave}
+
+-- what 12's test says
+pub few_says : (ts : List (List ℕ)) → few ts ≡ true → (length ts ≤ citation_limit) × (length (concat ts) ≤ cited_limit)
+unfolding few
+few_says ts h =
+    let a = and_both (leb (length ts) citation_limit) (leb (length (concat ts)) cited_limit) h in
+    (leb-true (length ts) citation_limit a.0, leb-true (length (concat ts)) cited_limit a.1)
+
+-- 12's test holds of what fits
+pub fits_few : (e : Expr) → Fits e → few (citations e) ≡ true
+unfolding few
+fits_few e f = rw (le-leb (count e) citation_limit f.few, le-leb (length (concat (citations e))) cited_limit f.small)
+
+-- what characters that were read gave
+pub gave : (cs : List ℕ) (e : Expr) → expression cs ≡ ok e → Gave cs e
+unfolding expression then tree
+gave cs e h = go (lex cs) refl h
+  where
+    go : (r : Result (List Tok)) → lex cs ≡ r → then r tree ≡ ok e → Gave cs e
+    go (ok ts) q k =
+        let p = unless_ok (some_token ts) Empty _ e k in
+        let p₂ = unless_ok (few (texts ts)) TooManyCitations _ e p.1 in
+        let p₃ = unless_ok (shallow open_limit 0 ts) TooDeep _ e p₂.1 in
+        record { toks = ts; lexed = q; limited = p₂.0; parsed = p₃.1 }
+    go (refused n) q k = absurd (refused≢ok k)
+
+-- what was read is readable, and fits
+pub expression_given : (cs : List ℕ) → Scalars cs → (e : Expr) → expression cs ≡ ok e → Readable e × Fits e
+expression_given cs s e h =
+    let g = gave cs e h in
+    let r = parse_readable g.toks e g.parsed in
+    let c = parse-cites g.toks e g.parsed in
+    let f = few_says (citations e) (rw c g.limited) in
+    (r, record { wide = readable_wide e r; few = f.0; small = f.1; citable = rw c (lexed_citable cs s g.toks g.lexed) })
+
+-- the characters of an admitted text
+pub reading_says : (s : List ℕ) (e : Expr) → reading s ≡ ok e → Scalars (decode s) × (expression (decode s) ≡ ok e)
+unfolding reading
+reading_says s e h =
+    let a = admitted_ok text_limit s (expression (decode s)) e h in
+    ((utf8_sound s a.0.1).0, a.1)
+
+-- what a text read as is readable, and fits
+pub reading_given : (s : List ℕ) (e : Expr) → reading s ≡ ok e → Readable e × Fits e
+reading_given s e h = let r = reading_says s e h in expression_given (decode s) r.0 e r.1

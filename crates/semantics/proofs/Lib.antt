@@ -1,0 +1,9 @@
+pub mod Evaluated
+pub mod Examples
+pub mod Flat
+pub mod Kept
+pub mod Known
+pub mod Pairs
+pub mod Sentences
+pub mod Sizes
+pub mod Unknown
