@@ -42,45 +42,48 @@ truth_number_lem (ok v) n = ap (λ x. verdict_number x) (answer_fits (truth_writ
 truth_number_lem (refused k) n = refl
 
 -- and writes nothing
-truth_written : (r : Result Truth) (old : List ℕ) → written_of (map_ok truth_written r) old ≡ old
+truth_written_lem : (r : Result Truth) (old : List ℕ) → written_of (map_ok truth_written r) old ≡ old
 unfolding written_of map_ok
-truth_written (ok v) old = written_fits (truth_written v) old (omega arith)
-truth_written (refused k) old = refl
+truth_written_lem (ok v) old = written_fits (truth_written v) old (omega arith)
+truth_written_lem (refused k) old = refl
 
 module _ (mode : ℕ) (s old new : List ℕ) (r : ℕ) where
   -- an expression
   pub read-expression : (a : Result ℕ) → mode ≡ 0 → r ≡ answer_number accepted_from expression_number a → a ≡ answer_of (parse_answer s) (length old) → new ≡ written_of (parse_answer s) old
-      → (r ≡ read_number (answer_of (read_answer mode s) (length old))) × (new ≡ written_of (read_answer mode s) old)
+      → record { value : r ≡ read_number (answer_of (read_answer mode s) (length old)); out_after : new ≡ written_of (read_answer mode s) old }
   unfolding read_answer
   read-expression a m e h w =
-      rw (eq-eqb mode 0 m) (
-        e ∙ ap (λ x. answer_number accepted_from expression_number x) h ∙ sym (said_number_lem expression accepted_from said_number (parse_answer s) (length old)),
-        w ∙ sym (said_written expression (parse_answer s) old),
-      )
+      rw (eq-eqb mode 0 m) record {
+        value = e ∙ ap (λ x. answer_number accepted_from expression_number x) h ∙ sym (said_number_lem expression accepted_from said_number (parse_answer s) (length old));
+        out_after = w ∙ sym (said_written expression (parse_answer s) old);
+      }
 
   -- a status
   pub read_status : (a : Result StatusSaid) → (mode ≡ 0 → ⊥) → r ≡ answer_number accepted_from status_number a → a ≡ answer_of (status_answer s) (length old) → new ≡ written_of (status_answer s) old
-      → (r ≡ read_number (answer_of (read_answer mode s) (length old))) × (new ≡ written_of (read_answer mode s) old)
+      → record { value : r ≡ read_number (answer_of (read_answer mode s) (length old)); out_after : new ≡ written_of (read_answer mode s) old }
   unfolding read_answer
   read_status a m e h w =
-      rw (ne_eqb mode 0 m) (
-        e ∙ ap (λ x. answer_number accepted_from status_number x) h ∙ sym (said_number_lem status accepted_from said_number (status_answer s) (length old)),
-        w ∙ sym (said_written status (status_answer s) old),
-      )
+      rw (ne_eqb mode 0 m) record {
+        value = e ∙ ap (λ x. answer_number accepted_from status_number x) h ∙ sym (said_number_lem status accepted_from said_number (status_answer s) (length old));
+        out_after = w ∙ sym (said_written status (status_answer s) old);
+      }
 
-module _ (mode : ℕ) (tree value old : List ℕ) (r : ℕ) where
+module _ (mode : ℕ) (tree v old : List ℕ) (r : ℕ) where
   -- the truth
-  pub verdict-truth : (a : Result Truth) → mode ≡ 0 → r ≡ answer_number accepted_from truth_number a → a ≡ truth_answer tree value
-      → (r ≡ verdict_number (answer_of (verdicts_answer mode tree value) (length old))) × (old ≡ written_of (verdicts_answer mode tree value) old)
+  pub verdict-truth : (a : Result Truth) → mode ≡ 0 → r ≡ answer_number accepted_from truth_number a → a ≡ truth_answer tree v
+      → record { value : r ≡ verdict_number (answer_of (verdicts_answer mode tree v) (length old)); list_after : old ≡ written_of (verdicts_answer mode tree v) old }
   unfolding verdicts_answer
   verdict-truth a m e h =
-      rw (eq-eqb mode 0 m) (
-        e ∙ ap (λ x. answer_number accepted_from truth_number x) h ∙ sym (truth_number_lem (truth_answer tree value) (length old)),
-        sym (truth_written (truth_answer tree value) old),
-      )
+      rw (eq-eqb mode 0 m) record {
+        value = e ∙ ap (λ x. answer_number accepted_from truth_number x) h ∙ sym (truth_number_lem (truth_answer tree v) (length old));
+        list_after = sym (truth_written_lem (truth_answer tree v) old);
+      }
 
   -- the violations
-  pub verdict-violations : (new : List ℕ) (a : Result ℕ) → (mode ≡ 0 → ⊥) → r ≡ verdict_number a → a ≡ answer_of (violations_answer tree value) (length old) → new ≡ written_of (violations_answer tree value) old
-      → (r ≡ verdict_number (answer_of (verdicts_answer mode tree value) (length old))) × (new ≡ written_of (verdicts_answer mode tree value) old)
+  pub verdict-violations : (new : List ℕ) (a : Result ℕ) → (mode ≡ 0 → ⊥) → r ≡ verdict_number a → a ≡ answer_of (violations_answer tree v) (length old) → new ≡ written_of (violations_answer tree v) old
+      → record { value : r ≡ verdict_number (answer_of (verdicts_answer mode tree v) (length old)); list_after : new ≡ written_of (verdicts_answer mode tree v) old }
   unfolding verdicts_answer
-  verdict-violations new a m e h w = rw (ne_eqb mode 0 m) (e ∙ ap (λ x. verdict_number x) h, w)
+  verdict-violations new a m e h w = rw (ne_eqb mode 0 m) record {
+    value = e ∙ ap (λ x. verdict_number x) h;
+    list_after = w;
+  }

@@ -9,4 +9,7 @@ pub print_number-requires : goal.print_number-requires
 print_number-requires c = subst (λ r. Among Printable r) (sym c.display.ensures.result_value) (print_among _ _)
 
 pub returns : goal.returns
-returns c = (c.print_number.ensures ∙ ap (λ x. verdict_number x) c.display.ensures.result_value, c.display.ensures.out_after)
+returns c = record {
+  value = c.print_number.ensures ∙ ap (λ x. verdict_number x) c.display.ensures.result_value;
+  out_after = c.display.ensures.out_after;
+}
