@@ -34,10 +34,10 @@ find_linked() {
     local old=()
     if outdated bin/tables; then old+=(tables); fi
     if [ -z "${REPLAY:-}" ] && outdated bin/replay; then old+=(replay); fi
-    if [ ${#old[@]} -gt 0 ]; then in_rt check "${old[@]}"; fi
+    if [ ${#old[@]} -gt 0 ]; then made "${old[@]}"; fi
     export REPLAY=${REPLAY:-$root/target/bin/replay}
     if [ ! -x "$REPLAY" ]; then
-        echo "compare: no program at $REPLAY: run rt check replay, or set REPLAY" >&2
+        echo "compare: no program at $REPLAY: run tools/make replay, or set REPLAY" >&2
         exit 2
     fi
     if [ -z "${AHB_LIB:-}" ]; then find_library ahb; fi
@@ -45,7 +45,7 @@ find_linked() {
 
 # A static library.
 find_library() {
-    if outdated "staticlib/lib$1.a"; then in_rt staticlib "$1"; fi
+    if outdated "staticlib/lib$1.a"; then made "$1"; fi
 }
 
 # Whether what rt makes of the crates is missing, or older than their code.
@@ -54,8 +54,8 @@ outdated() {
     [ ! -e "$made" ] || [ -n "$(find "$root/crates.txt" "$root"/crates/*/src -newer "$made" -print -quit)" ]
 }
 
-# Has rt make something anew; where it does not, there is nothing to compare.
-in_rt() {
-    echo "compare: rt $*" >&2
-    (cd "$root" && rt "$@") >&2 || exit 2
+# Has programs or libraries made anew; where they are not made, there is nothing to compare.
+made() {
+    echo "compare: tools/make $*" >&2
+    "$root/tools/make" "$@" >&2 || exit 2
 }

@@ -1,4 +1,4 @@
-/* AHB conditions: reading, presence and verdicts, for C. Link with libahb.a, which `rt staticlib ahb` writes.
+/* AHB conditions: reading, presence and verdicts, for C. Link with libahb.a, which `tools/make ahb` writes.
  *
  * Each function answers with one number. A refusal is its own number, 1 to 17 (enum ahb_refusal), and then every
  * lent byte keeps its former content. ahb_is_accepted and the functions below it take an answer apart.

@@ -1,4 +1,4 @@
-//! Finds libahb.a: in the folder AHB_LIB, else where `rt staticlib ahb` writes it.
+//! Finds libahb.a: in the folder AHB_LIB, else where `tools/make ahb` writes it.
 
 use std::env;
 use std::path::PathBuf;
@@ -13,7 +13,7 @@ fn main() {
     println!("cargo::rerun-if-changed={}", library.display());
     if !library.is_file() {
         println!(
-            "cargo::error={} is not there: run `rt staticlib ahb` at the root of the repository, or set AHB_LIB to the folder that has libahb.a",
+            "cargo::error={} is not there: run `tools/make ahb` at the root of the repository, or set AHB_LIB to the folder that has libahb.a",
             library.display()
         );
         return;

@@ -1,4 +1,4 @@
-// The functions for callers in C and Rust. Each answers with one number: a refusal with its own, 1 to 17.
+// The functions for callers in C and Rust, which crate ahb_c exports. Each answers with one number: a refusal with its own, 1 to 17.
 
 #![tactic(auto)]
 
@@ -64,8 +64,7 @@ fn status_number(answer: StatusAnswer) -> u64
 
 // Reads a text into a tree: an expression by mode 0, a status by any other. Accepted: 2^32, and 2^16 times the
 // code of the status word, or 7 for an expression, and the length of the tree; 0 for a word alone.
-#[unsafe(no_mangle)]
-pub extern "C" fn ahb_read(text: &[u8], mode: u8, out: &mut [u8]) -> u64
+pub fn ahb_read(text: &[u8], mode: u8, out: &mut [u8]) -> u64
     ensures value { result ≡ read_number (answer_of (read_answer mode text.now) (length out.old)) }
     ensures out_after { out.new ≡ written_of (read_answer mode text.now) out.old }
 {
@@ -76,8 +75,7 @@ pub extern "C" fn ahb_read(text: &[u8], mode: u8, out: &mut [u8]) -> u64
 }
 
 // The presence of a tree by its answers. Accepted: 256, and the number of the truth.
-#[unsafe(no_mangle)]
-pub extern "C" fn ahb_presence(tree: &[u8], answers: &[u8]) -> u32
+pub fn ahb_presence(tree: &[u8], answers: &[u8]) -> u32
     ensures { result ≡ presence_number (eval_answer tree.now answers.now) }
 {
     match presence::eval(tree, answers) {
@@ -107,8 +105,7 @@ fn violations_number(answer: ViolationsAnswer) -> u64
 
 // Judges a value by a tree. Accepted: 2^32, and by mode 0 the number of the format truth, the list not looked
 // at; by any other mode the count of the violated citations, whose numbers then begin the list.
-#[unsafe(no_mangle)]
-pub extern "C" fn ahb_verdicts(tree: &[u8], value: &[u8], mode: u8, list: &mut [u8]) -> u64
+pub fn ahb_verdicts(tree: &[u8], value: &[u8], mode: u8, list: &mut [u8]) -> u64
     ensures value { result ≡ verdict_number (answer_of (verdicts_answer mode tree.now value.now) (length list.old)) }
     ensures list_after { list.new ≡ written_of (verdicts_answer mode tree.now value.now) list.old }
 {

@@ -1,4 +1,4 @@
-// Printing for callers in C and Rust; the benchmark calls it. It answers as the functions of `ahb` do.
+// Printing for callers in C and Rust, which crate ahbprint_c exports; the benchmark calls it. It answers as the functions of `ahb` do.
 
 #![tactic(auto)]
 
@@ -25,8 +25,7 @@ fn print_number(answer: Displayed) -> u64
 }
 
 // Prints a tree. Accepted: 2^32, and the length of the print.
-#[unsafe(no_mangle)]
-pub extern "C" fn ahb_print(tree: &[u8], out: &mut [u8]) -> u64
+pub fn ahb_print(tree: &[u8], out: &mut [u8]) -> u64
     ensures value { result ≡ verdict_number (answer_of (display_answer tree.now) (length out.old)) }
     ensures out_after { out.new ≡ written_of (display_answer tree.now) out.old }
 {

@@ -1,5 +1,4 @@
 use native.Mathlib.Omega.{arith}
-use Prim.Native.Nat.{◌-◌}
 use mathlib.Core.Path.{refl, sym, ap, ◌∙◌}
 use Rattle.text.specs.Bytes.{begins}
 use Rattle.text.proofs.Laws.{begins_short, begins-next, begins_fail, begins_end}

@@ -1,5 +1,4 @@
 use native.Mathlib.Omega.{arith}
-use Prim.Native.Nat.{◌-◌}
 use mathlib.Core.Path.{refl, sym, ap, ◌∙◌}
 use lib.ListN.{drop}
 use Rattle.utf8.specs.Utf8.{is_utf8, char_count}

@@ -1,5 +1,4 @@
 use native.Mathlib.Omega.{arith}
-use Prim.Native.Nat.{◌-◌}
 use mathlib.Core.Path.{refl, sym, ◌∙◌}
 use Rattle.status.specs.Status.{kind_of_word}
 use Rattle.status.proofs.Laws.{kind_here, kind_later, kind_none}
