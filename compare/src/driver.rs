@@ -609,9 +609,9 @@ impl<'a> Comparer<'a> {
 fn tried(plan: &Plan, root: &Path, batches: Receiver<Batch>) -> Outcome {
     let batches = Mutex::new(Some(batches));
     let next = || batches.lock().ok()?.as_ref()?.recv().ok();
-    let work = |number| {
+    let work = || {
         Comparer::of(plan).all(|comparer| {
-            let folder = Folder::new(root, "replay", number)?;
+            let folder = Folder::new(root, "replay")?;
             while let Some(batch) = next() {
                 comparer.try_lines(&folder, Lines::of(&batch))?;
                 if comparer.ends() {
@@ -623,7 +623,7 @@ fn tried(plan: &Plan, root: &Path, batches: Receiver<Batch>) -> Outcome {
     };
     let mut outcome = Outcome::default();
     thread::scope(|scope| {
-        let started: Vec<_> = (0..TRIED_AT_ONCE).map(|number| scope.spawn(move || work(number))).collect();
+        let started: Vec<_> = (0..TRIED_AT_ONCE).map(|_| scope.spawn(work)).collect();
         for worker in started {
             match worker.join() {
                 Ok(done) => outcome.add(done),

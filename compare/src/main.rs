@@ -39,7 +39,7 @@ fn root() -> PathBuf {
     Path::new(env!("CARGO_MANIFEST_DIR")).join("..")
 }
 
-/// The program under comparison: `REPLAY`, else where `rt check replay` links it; without the library it is tried.
+/// The program under comparison: `REPLAY`, else where `tools/make replay` puts it; without the library it is tried.
 fn replay() -> Replay {
     if calls::LINKED {
         Replay::Linked(env::var_os("REPLAY").map_or_else(|| root().join("target/bin/replay"), PathBuf::from))
@@ -109,7 +109,7 @@ fn report(outcome: &Outcome, known: &[Function]) {
         println!("{line}");
     }
     if !calls::LINKED {
-        println!("a part of the cases: where rt check replay has linked the program, all are asked");
+        println!("a part of the cases: where tools/make replay has linked the program, all are asked");
     }
     let missing: Vec<&str> = Function::ALL.iter().filter(|f| !known.contains(f)).map(|f| f.word()).collect();
     if !missing.is_empty() {

@@ -57,7 +57,7 @@ pub fn compare(path: &Path) -> Result<usize, String> {
 pub fn compare_tried(root: &Path) -> Result<usize, String> {
     let (due, asked) = due();
     let due: String = due.iter().map(|line| format!("{line}\n")).collect();
-    match Folder::new(root, "tables", 0)?.run(b"", due.as_bytes())? {
+    match Folder::new(root, "tables")?.run(b"", due.as_bytes())? {
         Written::AsDue => Ok(asked),
         Written::Late => Err("tables takes too long".to_owned()),
         Written::Else { at, said } => {

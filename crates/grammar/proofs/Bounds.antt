@@ -9,7 +9,6 @@ use Rattle.grammar.specs.Lex.{Tok, cited, op, opening, closing, symbol, texts}
 use Rattle.grammar.specs.Print.{in_tokens, in_bytes, sign_bytes, bracketed, print, listed, links, operand, printed}
 use Rattle.grammar.specs.Reading.{shallow, Fits, print_limit}
 
-
 mutual
   unfolding citations
 

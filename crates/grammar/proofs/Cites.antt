@@ -10,7 +10,6 @@ use Rattle.grammar.specs.Citable.{holds, AllCitable}
 use Rattle.grammar.proofs.Citable.{holds_none, citable_encoded}
 use Rattle.grammar.specs.Parse.{same, gather, Side, lead, chain, whole, led, grow, Left, start, after, Opens, top, within, value, read, parse}
 
-
 gather-cites : (es : Exprs) → citations (gather es) ≡ citations_of es
 unfolding gather citations
 gather-cites none = refl

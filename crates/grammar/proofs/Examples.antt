@@ -20,7 +20,6 @@ use Rattle.grammar.specs.Rows.{op_kind, many, node, rows, firsts, rests, made, f
 use Rattle.grammar.specs.Bytes.{two_bytes, row_bytes, cite_bytes, head_bytes, packed, bytes_of, rows_from, cited_from, head_ok, size_of, tiles, row_ok, rows_ok, cites_ok, is_tree, forest_at, tree_at, tree_of}
 use Rattle.grammar.specs.Quoted.{bytes}
 
-
 -- a citation with a quoted text
 abbrev c : String → Expr
 c s = cite (bytes s)

@@ -16,7 +16,6 @@ use Rattle.grammar.specs.Reading.{some_token, few, shallow, open_limit, tree, ex
 use Rattle.grammar.specs.Status.{words, joined, stated, after_word, of_words, status_reading}
 use Rattle.grammar.specs.Bytes.{is_tree, tree_at, tree_of}
 
-
 module _ {A : Type 0} (P : A → Type 0) where
   -- 10 and 11 are of the table
   pub admitted-among : (most : ℕ) (s : List ℕ) (r : Result A) → Among P r → Among P (admitted most s r)

@@ -19,7 +19,6 @@ use Rattle.grammar.specs.Parse.{whole, Left, start, after, Opens, top, within, v
 use Rattle.grammar.specs.Reading.{some_token, few, shallow, open_limit, tree, expression}
 use Rattle.grammar.specs.Status.{ended, words_from, words, joined, stated, after_word, of_words, status_reading}
 
-
 module _ {A : Type 0} where
   -- an answer, or another refusal than 6
   abbrev NotEmpty : Result A → Type 0

@@ -14,10 +14,9 @@ use Rattle.grammar.proofs.Flat.{print_flat}
 use Rattle.grammar.specs.Readable.{Readable}
 use Rattle.grammar.proofs.Round.{round}
 use Rattle.grammar.proofs.LexPrint.{print_lexes, print_lexed}
-use Rattle.grammar.specs.Reading.{some_token, few, tree, expression, reading, Fits, open_limit}
+use Rattle.grammar.specs.Reading.{some_token, tree, expression, reading, Fits, open_limit}
 use Rattle.grammar.proofs.Reading.{fits_few}
 use Rattle.grammar.proofs.Bounds.{print_shallow, texts_print, print_short}
-
 
 parse_some : (ts : List Tok) (e : Expr) → parse ts ≡ ok e → some_token ts ≡ true
 unfolding parse some_token read

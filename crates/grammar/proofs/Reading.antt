@@ -1,11 +1,11 @@
 -- Reading a text as an expression, with the refusals in their order. Assumes nothing.
-use Rattle.std.specs.Prelude.{◌≡◌, refl, List, true, ℕ, ◌-◌, ◌≤◌, leb, length}
+use Rattle.std.specs.Prelude.{◌≡◌, refl, List, true, ℕ, ◌≤◌, leb, length}
 use Rattle.std.proofs.Common.{leb-true, le-leb}
 use Rattle.laws.specs.Tests.{and_both}
 use Rattle.refusal.specs.Result.{Result, ok, refused, then, refused≢ok, unless_ok}
 use Rattle.refusal.specs.declared.Refusal.TheVariants.{Empty, TooManyCitations, TooDeep}
 use Rattle.utf8.specs.Utf8.{decode, Scalars}
-use Rattle.utf8.specs.Limits.{text_limit, admitted}
+use Rattle.utf8.specs.Limits.{text_limit}
 use Rattle.utf8.proofs.Sound.{utf8_sound}
 use Rattle.utf8.proofs.Limits.{admitted_ok}
 use Rattle.grammar.specs.Expr.{Expr, concat, citations, count}

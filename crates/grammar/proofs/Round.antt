@@ -15,7 +15,6 @@ use Rattle.grammar.specs.Steps.{Ends, resume}
 use Rattle.grammar.proofs.Steps.{settled}
 use Rattle.grammar.specs.Round.{grows}
 
-
 -- two juxtaposed operands or more are one node
 pub gather_two : (es : Exprs) → Two es → gather es ≡ Then es
 unfolding gather

@@ -7,7 +7,7 @@ use Prim.Native.Nat.{ℕ, ◌+◌}
 use Rattle.std.proofs.Math.Seq.{drop-append_seam}
 use Rattle.grammar.specs.Expr.{And, Or, Xor, Expr, Exprs, cite, Then, join, none, more, ◌◂◌, ◌⧺◌, citations, citations_of, count}
 use Rattle.grammar.proofs.Expr.{append_none}
-use Rattle.grammar.specs.Rows.{Row, op_kind, many, node, rows, rows_of, firsts, rests, made, first, place, build}
+use Rattle.grammar.specs.Rows.{Row, op_kind, many, node, rows, rows_of, firsts, rests, made, place, build}
 
 -- the first of trees
 pub firsts-all : (es st : Exprs) → firsts (many es) (es ⧺ st) ≡ es

@@ -12,7 +12,6 @@ use Rattle.grammar.specs.Rows.{Row, row, op_kind, many, node, rows, rows_of, spa
 use Rattle.grammar.specs.Bytes.{tiles, row_ok, rows_ok}
 use Rattle.grammar.specs.Shape.{size_rows, drop_rows}
 
-
 -- a tree has a row
 pub span_some : (e : Expr) → 0 < span e
 unfolding span

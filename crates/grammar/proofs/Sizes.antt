@@ -10,7 +10,6 @@ use Rattle.grammar.specs.Print.{printed}
 use Rattle.grammar.proofs.Shape.{many_two}
 use Rattle.grammar.proofs.Trees.{packed-length}
 
-
 mutual
   unfolding span citations many
 

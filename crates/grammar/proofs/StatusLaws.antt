@@ -17,7 +17,6 @@ use Rattle.grammar.specs.Reading.{expression, reading}
 use Rattle.grammar.specs.Status.{ended, words_from, words, spaced, joined, Stated, alone, stated, after_word, of_words, status_reading}
 use Rattle.grammar.specs.StatusLaws.{States}
 
-
 encode_append : (a b : List ℕ) → encode (a ++ b) ≡ encode a ++ encode b
 encode_append [] b = refl
 encode_append (c ∷ a) b = ap (λ x. encode_char c ++ x) (encode_append a b) ∙ sym (append_assoc (encode_char c) (encode a) (encode b))

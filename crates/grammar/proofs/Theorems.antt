@@ -25,7 +25,6 @@ use Rattle.grammar.proofs.Trees as trees
 use Rattle.grammar.proofs.Sizes as sizes
 use Rattle.grammar.specs.Theorems.{WasRead, as_expression, after_status}
 
-
 -- For every expression that fits, read or not.
 
 -- the flat tree fits

@@ -18,7 +18,6 @@ use Rattle.grammar.proofs.Shape.{span_some, tiles_rows, ok_rows}
 use Rattle.grammar.specs.Pack.{IsBytes, put, got, rows_got, rows_put, rows_length, texts-length, cites-got, cites_put, length-drop}
 use Rattle.grammar.specs.Trees.{Header, Reads, Headed, headed, Tests, Only, Rooted, Sound}
 
-
 rows_size : (rs : List Row) → length (row_bytes rs) ≡ row_size * length rs
 unfolding row_bytes two_bytes
 rows_size [] = refl

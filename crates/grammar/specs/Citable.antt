@@ -3,7 +3,6 @@ use Rattle.std.specs.Prelude.{◌≡◌, List, [], ◌∷◌, Bool, true, false,
 use Rattle.utf8.specs.Utf8.{is_utf8, decode, encode, Scalars}
 use Rattle.grammar.specs.Lex.{blank, cite_end}
 
-
 -- the character stands among these
 unfoldable pub holds : ℕ → List ℕ → Bool
 holds x [] = false

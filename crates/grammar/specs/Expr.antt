@@ -2,11 +2,9 @@
 use Rattle.std.specs.Prelude.{◌≡◌, refl, List, [], ◌∷◌, ◌++◌, ℕ, length}
 use Rattle.std.proofs.Common.{sym, append_assoc}
 
-
 infixr 50 ◌◂◌
 infixr 50 ◌⧺◌
 infixl 45 ◌▸◌
-
 -- the operators ∧, ∨ and ⊻
 pub data Op : Type 0 where
   And Or Xor : Op

@@ -1,7 +1,5 @@
 -- The flat tree (a term of document 01; docs/FORMAT.md, 'The printed form'). Assumes nothing.
 use Rattle.grammar.specs.Expr.{Expr, Exprs, cite, Then, join, none, more, ◌◂◌, ◌⧺◌}
-use Rattle.grammar.specs.Print.{operand}
-
 
 -- what an expression gives to a Then that it is an operand of: itself, or its own operands if it is a Then
 unfoldable pub operands : Expr → Exprs

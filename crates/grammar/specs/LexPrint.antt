@@ -4,7 +4,6 @@ use Rattle.refusal.specs.Result.{Result, map_ok}
 use Rattle.utf8.specs.Utf8.{is_utf8, decode}
 use Rattle.grammar.specs.Lex.{Tok, lex}
 
-
 -- tokens put before what is lexed
 unfoldable pub before : List Tok → Result (List Tok) → Result (List Tok)
 before ts r = map_ok (λ us. ts ++ us) r

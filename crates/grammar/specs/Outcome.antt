@@ -13,7 +13,6 @@ use Rattle.grammar.specs.Reading.{reading}
 use Rattle.grammar.specs.Status.{Stated, alone, stated, status_reading}
 use Rattle.grammar.specs.Bytes.{bytes_of, tree_of}
 
-
 -- what is answered, and the bytes that are written
 pub record Written (A : Type 0) : Type 0 where
   pub answer : A

@@ -5,7 +5,6 @@ use Rattle.grammar.specs.Expr.{Op, Expr, Exprs, cite, Then, join, none, more}
 use Rattle.grammar.specs.Lex.{Tok, cited, op, opening, closing, cite_begin, cite_end, group_begin, group_end, blank_char, symbol}
 use Rattle.grammar.specs.Citable.{citable}
 
-
 -- how the parts of a printed form are written, in tokens or in bytes: a citation, what stands between the operands of a Then, an operator with what is around it, the parentheses
 pub record Style (A : Type 0) : Type 0 where
   pub word : List ℕ → List A

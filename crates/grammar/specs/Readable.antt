@@ -3,7 +3,6 @@ use Rattle.std.specs.Prelude.{◌≡◌, false}
 use Rattle.grammar.specs.Expr.{Op, Expr, Exprs, cite, Then, join, none, more, Two}
 use Rattle.grammar.specs.Parse.{same}
 
-
 -- the expression is no node of the operator
 abbrev pub Fresh : Op → Expr → Type 0
 Fresh o (cite t) = Unit

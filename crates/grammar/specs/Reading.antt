@@ -9,7 +9,6 @@ use Rattle.grammar.specs.Lex.{Tok, cited, op, opening, closing, lex, texts}
 use Rattle.grammar.specs.Citable.{AllCitable}
 use Rattle.grammar.specs.Parse.{parse}
 
-
 -- most citations
 abbrev pub citation_limit : ℕ
 citation_limit = 256

@@ -1,6 +1,6 @@
 -- The printed tokens of a readable tree are read as its flat tree. Assumes nothing.
 use Rattle.grammar.specs.Expr.{Op, Exprs, none, more}
-use Rattle.grammar.specs.Parse.{Side, grow, after}
+use Rattle.grammar.specs.Parse.{Side, grow}
 
 -- a side and a run of one operator after it
 unfoldable pub grows : Side → Op → Exprs → Side

@@ -6,7 +6,6 @@ use mathlib.Core.List.{List, [], ◌∷◌, ◌++◌}
 use Prim.Native.Nat.{ℕ, zero, suc, ◌+◌}
 use Rattle.grammar.specs.Expr.{Op, And, Or, Xor, Expr, Exprs, cite, Then, join, none, more, ◌◂◌, ◌⧺◌, count}
 
-
 -- a node row: kind; how many children, or which citation; how many rows in the subtree
 pub data Row : Type 0 where
   row : (kind number size : ℕ) → Row

@@ -5,7 +5,6 @@ use Rattle.grammar.specs.Expr.{Op, Expr, Exprs, cite, none, ◌◂◌, ◌▸◌
 use Rattle.grammar.specs.Lex.{Tok, cited, op, opening, closing}
 use Rattle.grammar.specs.Parse.{gather, parse}
 
-
 -- tokens in parentheses
 abbrev pub group : List Tok → List Tok
 group ts = opening ∷ (ts ++ (closing ∷ []))

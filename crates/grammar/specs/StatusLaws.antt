@@ -5,7 +5,7 @@ use Rattle.utf8.specs.Utf8.{decode, encode}
 use Rattle.status.specs.declared.StatusKind.{StatusKind}
 use Rattle.status.specs.Status.{kind_of_word}
 use Rattle.grammar.specs.Expr.{Expr}
-use Rattle.grammar.specs.Reading.{expression, reading}
+use Rattle.grammar.specs.Reading.{reading}
 use Rattle.grammar.specs.Status.{words, joined}
 
 -- a text that states the word k and the expression e: its words, the first of which is k's, and the text of the others, which reads as e

@@ -6,7 +6,6 @@ use Rattle.grammar.specs.Expr.{Expr, Exprs, none, ◌▸◌}
 use Rattle.grammar.specs.Lex.{Tok, cited, op, opening, closing}
 use Rattle.grammar.specs.Parse.{Side, whole, Left, after, Opens, top, within, read}
 
-
 -- what ends a run of juxtaposed operands: an operator, a closing parenthesis, the end
 abbrev pub Ends : List Tok → Type 0
 Ends [] = Unit

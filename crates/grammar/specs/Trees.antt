@@ -1,5 +1,5 @@
 -- Bytes are a tree exactly if they are the bytes of an expression that fits. Assumes nothing.
-use Rattle.std.specs.Prelude.{◌≡◌, List, true, ◌&&◌, ℕ, ◌+◌, ◌-◌, ◌≤◌, eqb, leb, length, drop}
+use Rattle.std.specs.Prelude.{◌≡◌, List, true, ◌&&◌, ℕ, ◌+◌, ◌≤◌, eqb, leb, length, drop}
 use Rattle.std.proofs.Common.{eqb-true, leb-true}
 use Rattle.laws.specs.Tests.{and_both}
 use Rattle.refusal.specs.Result.{ok}
