@@ -59,7 +59,7 @@ fn written(report: &str, wrote: &[u8], due: &[u8]) -> Result<Written, String> {
     let ran = report.lines().find_map(|line| line.strip_prefix("checked: "));
     match ran {
         Some(ran) if ran.starts_with("ended status=0") => Ok(held(wrote, due)),
-        Some(ran) if ran.starts_with("no-answer") && ran.contains("seconds") => Ok(Written::Late),
+        Some(ran) if ran.ends_with("did not end within the time limit") => Ok(Written::Late),
         _ => Err(format!("rt try does not say that the program ended:\n{report}")),
     }
 }
@@ -78,13 +78,13 @@ fn held(wrote: &[u8], due: &[u8]) -> Written {
 mod tests {
     use super::*;
 
-    const INTERPRETED: &str = "interpreter: no-answer: the run did not finish within 1 steps: the program may loop forever\n";
+    const INTERPRETED: &str = "interpreter: no-answer: the run did not finish within 1 step: the program may loop forever\n";
     const ENDED: &str = "checked: ended status=0\nrun=ended status=0 runners=1 proved=no\n";
 
     #[test]
     fn the_compiled_run_as_due() {
         assert_eq!(written(&format!("{INTERPRETED}{ENDED}"), b"0\n", b"0\n"), Ok(Written::AsDue));
-        let late = "checked: no-answer: the run did not finish within 60 seconds\nrun=no-answer proved=no\n";
+        let late = "checked: no-answer: the program did not end within the time limit\nrun=no-answer proved=no\n";
         assert_eq!(written(&format!("{INTERPRETED}{late}"), b"", b"0\n"), Ok(Written::Late));
         assert!(written(INTERPRETED, b"0\n", b"0\n").is_err());
     }
