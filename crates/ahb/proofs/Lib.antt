@@ -1,3 +1,1 @@
 pub mod Laws
-pub mod Determined
-pub mod Sizes

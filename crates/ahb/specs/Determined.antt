@@ -1,8 +1,97 @@
 -- The number that is answered determines the answer. Assumes nothing.
-use Rattle.ahb.specs.Numbers.{ReadSaid, expression, status}
-use Rattle.ahb.specs.Sizes.{Short, ShortStatus}
+use Rattle.std.specs.Prelude.{◌≡◌, List, ℕ, ◌≤◌, ◌<◌, eqb}
+use Rattle.std.proofs.Common.{ap, ◌∙◌, arith}
+use Rattle.laws.specs.Tests.{cond_both}
+use Rattle.refusal.specs.Result.{Result, ok, refused}
+use Rattle.refusal.specs.Known.{Among, Known, last_refusal, named_most, among_known, map-among, map_known}
+use Rattle.status.specs.declared.StatusKind.{StatusKind}
+use Rattle.status.specs.declared.StatusKind.TheVariants.{Muss, Soll, Kann, X, M, S, K}
+use Rattle.status.specs.Status.{code_of, code_injective}
+use Rattle.citation.specs.Truths.{truth_number, truth_number_injective}
+use Rattle.grammar.specs.Outcome.{answer_of, StatusSaid, word_alone, with_tree, parse_answer, status_answer}
+use Rattle.semantics.specs.Answers.{eval_answer, truth_answer, violations_answer}
+use Rattle.semantics.proofs.Known.{eval_known, truth_known}
+use Rattle.ahb.specs.Numbers.{accepted_from, present_from, answer_number, ReadSaid, expression, status, said_number, read_number, presence_number, verdict_number}
+use Rattle.ahb.specs.Answers.{said_by, truth_written, read_answer, verdicts_answer}
+use Rattle.ahb.specs.Sizes.{Short, ShortStatus, CountFew, answer_among, parse-outcome, status_outcome_lem, violations-outcome}
+
+module _ {A : Type 0} (least : ℕ) (number : A → ℕ) (P : A → Type 0) (same : (a b : A) → P a → P b → number a ≡ number b → a ≡ b) where
+  -- a number over the refusals' tells the answer, if the answers' numbers do
+  pub answer_number_injective : last_refusal < least → (a b : Result A) → Among P a → Among P b → answer_number least number a ≡ answer_number least number b → a ≡ b
+  answer_number_injective l (ok a) (ok b) p q h = ap ok (same a b p q (omega (arith, h)))
+  answer_number_injective l (ok a) (refused k) p q h = absurd (omega (arith, l, named_most q.0, q.1, h))
+  answer_number_injective l (refused k) (ok a) p q h = absurd (omega (arith, l, named_most p.0, p.1, h))
+  answer_number_injective l (refused j) (refused k) p q h = ap refused h
+
+code_most : (k : StatusKind) → code_of k ≤ 6
+code_most Muss = omega arith
+code_most Soll = omega arith
+code_most Kann = omega arith
+code_most X = omega arith
+code_most M = omega arith
+code_most S = omega arith
+code_most K = omega arith
+
+-- a status by its number
+status_number_injective : (a b : StatusSaid) → ShortStatus a → ShortStatus b → said_number (status a) ≡ said_number (status b) → a ≡ b
+status_number_injective (word_alone j) (word_alone k) p q h = ap word_alone (code_injective j k (omega (arith, h)))
+status_number_injective (word_alone j) (with_tree k n) p q h = absurd (omega (arith, h, q.0, q.1))
+status_number_injective (with_tree j m) (word_alone k) p q h = absurd (omega (arith, h, p.0, p.1))
+status_number_injective (with_tree j m) (with_tree k n) p q h =
+    let code : code_of j ≡ code_of k = omega (arith, h, p.1, q.1) in
+    let kind = code_injective j k code in
+    let size : m ≡ n = omega (arith, h, code) in
+    ap (λ x. with_tree x m) kind ∙ ap (with_tree k) size
+
+-- no status has the number of an expression
+status_below : (s : StatusSaid) → ShortStatus s → said_number (status s) < said_number (expression 0)
+status_below (word_alone k) p = omega (arith, code_most k)
+status_below (with_tree k n) p = omega (arith, code_most k, p.1)
 
 -- what reading says, with a length that fits
 abbrev pub ShortSaid : ReadSaid → Type 0
 ShortSaid (expression n) = Short n
 ShortSaid (status s) = ShortStatus s
+
+said_number_injective : (a b : ReadSaid) → ShortSaid a → ShortSaid b → said_number a ≡ said_number b → a ≡ b
+said_number_injective (expression m) (expression n) p q h = ap expression (omega (arith, h))
+said_number_injective (expression m) (status s) p q h = absurd (omega (arith, h, status_below s q))
+said_number_injective (status s) (expression n) p q h = absurd (omega (arith, h, status_below s p))
+said_number_injective (status s) (status t) p q h = ap status (status_number_injective s t p q h)
+
+-- the number of a reading whose length fits, or of a refusal of the table, is that of no other
+pub read_number_injective : (a b : Result ReadSaid) → Among ShortSaid a → Among ShortSaid b → read_number a ≡ read_number b → a ≡ b
+read_number_injective = answer_number_injective accepted_from said_number ShortSaid said_number_injective (omega arith)
+
+-- every reading is of these
+pub read-among : (mode : ℕ) (text : List ℕ) (n : ℕ) → Among ShortSaid (answer_of (read_answer mode text) n)
+unfolding read_answer
+read-among mode text n =
+    answer_among ShortSaid _ n
+    (cond_both (Among (λ w. ShortSaid w.answer)) (eqb mode 0) _ _ (λ _. map-among (λ w. ShortSaid w.answer) (said_by expression) (parse_answer text) (parse-outcome text))
+    λ _. map-among (λ w. ShortSaid w.answer) (said_by status) (status_answer text) (status_outcome_lem text))
+
+-- so what `ahb_read` answers tells what was read
+pub read_determined : (mode mode' : ℕ) (text text' : List ℕ) (n n' : ℕ)
+    → read_number (answer_of (read_answer mode text) n) ≡ read_number (answer_of (read_answer mode' text') n') → answer_of (read_answer mode text) n ≡ answer_of (read_answer mode' text') n'
+read_determined mode mode' text text' n n' = read_number_injective _ _ (read-among mode text n) (read-among mode' text' n')
+
+-- what `ahb_presence` answers tells the presence
+pub presence_determined : (tree tree' answers answers' : List ℕ)
+    → presence_number (eval_answer tree answers) ≡ presence_number (eval_answer tree' answers') → eval_answer tree answers ≡ eval_answer tree' answers'
+presence_determined tree tree' answers answers' =
+    answer_number_injective present_from truth_number (λ _. Unit {0}) (λ a b _ _. truth_number_injective a b) (omega arith) _ _ (eval_known tree answers) (eval_known tree' answers')
+
+verdicts_known : (mode : ℕ) (tree value : List ℕ) → Known (verdicts_answer mode tree value)
+unfolding verdicts_answer
+verdicts_known mode tree value =
+    cond_both Known (eqb mode 0) _ _ (λ _. map_known truth_written (truth_answer tree value) (truth_known tree value)) λ _. among_known CountFew (violations_answer tree value) (violations-outcome tree value)
+
+-- what `ahb_verdicts` answers tells the number of the truth, or the count, as the mode asks
+pub verdicts_determined : (mode mode' : ℕ) (tree tree' value value' : List ℕ) (n n' : ℕ)
+    → verdict_number (answer_of (verdicts_answer mode tree value) n) ≡ verdict_number (answer_of (verdicts_answer mode' tree' value') n')
+    → answer_of (verdicts_answer mode tree value) n ≡ answer_of (verdicts_answer mode' tree' value') n'
+verdicts_determined mode mode' tree tree' value value' n n' =
+    answer_number_injective accepted_from (λ k. k) (λ _. Unit {0}) (λ a b _ _ h. h) (omega arith) _ _
+    (answer_among (λ _. Unit {0}) (verdicts_answer mode tree value) n (verdicts_known mode tree value))
+    (answer_among (λ _. Unit {0}) (verdicts_answer mode' tree' value') n' (verdicts_known mode' tree' value'))

@@ -29,7 +29,6 @@ use Rattle.semantics.specs.Packages.{bytes_up_to, paket_bytes, rows_of, pakete}
 use Rattle.grammar.specs.Outcome.{answer_of, written_of}
 use Rattle.semantics.specs.Answers.{eval_answer, violations_answer, eval_and_truth_answer}
 
-
 -- a citation with a quoted text
 abbrev c : String → Expr
 c s = cite (bytes s)

@@ -20,7 +20,6 @@ use Rattle.semantics.specs.Pairs.{pair}
 use Rattle.semantics.proofs.Pairs.{rule_none, rule_more, and_assoc, and_neutral, neutral_and}
 use Rattle.semantics.specs.Packages.{pakete}
 
-
 -- Then and And of two answers: the first refusal met, else the truths joined. What a Then inside a Then says counts as what its operands say, since this is associative
 both_said : Result Truth → Result Truth → Result Truth
 both_said (ok a) (ok b) = ok (pair And a b)

@@ -16,7 +16,6 @@ use Rattle.semantics.specs.Presence.{presence_with, failed, mixes, before, value
 use Rattle.semantics.specs.Truth.{truth}
 use Rattle.semantics.specs.Answers.{presence_by, eval_answer, truth_answer}
 
-
 answered_known : (b : ℕ) → Known (answered b)
 unfolding answered
 answered_known b =

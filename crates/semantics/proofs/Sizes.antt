@@ -13,7 +13,6 @@ use Rattle.semantics.specs.Truth.{Counts}
 use Rattle.semantics.specs.Violations.{violated, violated_of, number_bytes}
 use Rattle.semantics.specs.Packages.{is_paket, paket_size, bytes_up_to, paket_bytes, read_row, row_of, rows_of}
 
-
 -- two bytes a number
 pub numbers_length : (ns : List ℕ) → length (number_bytes ns) ≡ 2 * length ns
 unfolding number_bytes two_bytes

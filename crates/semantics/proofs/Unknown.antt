@@ -22,7 +22,6 @@ use Rattle.semantics.specs.Evaluated.{evaluates, evaluates_of}
 use Rattle.semantics.proofs.Evaluated.{first_evaluated, rest_evaluated}
 use Rattle.semantics.specs.Truth.{is_judged, truth_with, truths_with, cited_truth, counts_on}
 
-
 is_unknown_lem : (v : Truth) → is_unknown v ≡ true → v ≡ Unknown
 is_unknown_lem False h = absurd (false≢true h)
 is_unknown_lem Unknown h = refl

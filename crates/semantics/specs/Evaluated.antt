@@ -3,7 +3,6 @@ use Rattle.std.specs.Prelude.{Bool, true, false, not, ◌&&◌, ◌||◌, ℕ, �
 use Rattle.grammar.specs.Expr.{And, Or, Xor, Expr, Exprs, cite, Then, join, none, more, count}
 use Rattle.semantics.specs.Presence.{dropped}
 
-
 unfoldable mutual
   -- the citation with the number k is evaluated in an expression whose first citation has the number n
   pub evaluates : (k n : ℕ) → Expr → Bool

@@ -2,9 +2,8 @@
 use Rattle.std.specs.Prelude.{◌≡◌, Bool, true, not, ◌&&◌, ◌||◌}
 use Rattle.citation.specs.declared.Truth.{Truth}
 use Rattle.citation.specs.declared.Truth.TheVariants.{Neutral}
-use Rattle.grammar.specs.Expr.{And, Or, none}
+use Rattle.grammar.specs.Expr.{And, Or}
 use Rattle.semantics.specs.Pairs.{pair, each2}
-
 
 -- joining two keeps a relation
 abbrev pub keeps : (Truth → Truth → Bool) → (Truth → Truth → Truth) → Bool

@@ -6,7 +6,6 @@ use Rattle.citation.specs.Truths.{truth_number}
 use Rattle.grammar.specs.Expr.{Op}
 use Rattle.semantics.specs.Truth.{format_rule}
 
-
 -- an operator's rule of two
 abbrev pub pair : Op → Truth → Truth → Truth
 pair o v w = format_rule o (v ∷ w ∷ [])

@@ -2,10 +2,7 @@
 use Rattle.std.specs.Prelude.{List, [], ◌∷◌, Bool, true, cond, ◌&&◌}
 use Rattle.citation.specs.declared.Truth.{Truth}
 use Rattle.citation.specs.declared.Truth.TheVariants.{False, Unknown, True, Neutral}
-use Rattle.grammar.specs.Expr.{Or, Xor}
 use Rattle.semantics.specs.Rules.{is_unknown, is_true, is_neutral, any, two_true}
-use Rattle.semantics.specs.Presence.{dropped, values}
-
 
 -- all are Neutral
 abbrev pub only_neutral : List Truth → Bool

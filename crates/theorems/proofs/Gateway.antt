@@ -9,8 +9,7 @@ use Rattle.refusal.specs.declared.Refusal.TheVariants.{NoRoom}
 use Rattle.grammar.specs.Outcome.{Outcome, answer_of, written_of, parse_answer, status_answer, StatusSaid, word_alone, with_tree}
 use Rattle.ahb.specs.Numbers.{accepted_from, code_step, coded, ReadSaid, expression, status, read_number, presence_number, verdict_number}
 use Rattle.ahb.specs.Answers.{said_by, read_answer, verdicts_answer}
-use Rattle.ahb.specs.Determined.{ShortSaid}
-use Rattle.ahb.proofs.Determined.{read-among}
+use Rattle.ahb.specs.Determined.{ShortSaid, read-among}
 use Rattle.ahb.proofs.Laws.{said_written}
 use Rattle.theorems.specs.Demand3.{Held, by_expression, by_status, flat_tree, AnswersAlike}
 use Rattle.theorems.proofs.Demand3.{held_promised}

@@ -38,8 +38,7 @@ use Rattle.semantics.specs.Truth.{truth}
 use Rattle.semantics.specs.Answers.{presence_by, eval_answer, truth_answer, violations_answer, eval_and_truth_answer, rowed, pakete_answer}
 use Rattle.semantics.proofs.Known.{presence_known, eval_known, truth_known}
 use Rattle.tree.specs.Cited.{cited_place, cited_answer}
-use Rattle.ahb.specs.Sizes.{Short, ShortStatus, Few}
-use Rattle.ahb.proofs.Sizes.{answer_among, parse-among, status_among, violations-among}
+use Rattle.ahb.specs.Sizes.{Short, ShortStatus, Few, answer_among, parse-among, status_among, violations-among}
 
 -- Lent memory.
 

@@ -1,7 +1,6 @@
 use mathlib.Core.Path.{sym, subst}
 use Rattle.refusal.specs.Known.{Among}
-use Rattle.ahb.specs.Sizes.{Short, ShortStatus}
-use Rattle.ahb.proofs.Sizes.{parse-among, status_among}
+use Rattle.ahb.specs.Sizes.{Short, ShortStatus, parse-among, status_among}
 use Rattle.ahb.proofs.Laws.{read-expression, read_status}
 use Rattle.ahb.proofs.ahb_read.Goals as goal
 

@@ -1,7 +1,6 @@
 use mathlib.Core.Path.{sym, subst}
 use Rattle.refusal.specs.Known.{Among}
-use Rattle.ahb.specs.Sizes.{Few}
-use Rattle.ahb.proofs.Sizes.{violations-among}
+use Rattle.ahb.specs.Sizes.{Few, violations-among}
 use Rattle.ahb.proofs.Laws.{verdict-truth, verdict-violations}
 use Rattle.ahb.proofs.ahb_verdicts.Goals as goal
 

@@ -1,8 +1,7 @@
 use mathlib.Core.Path.{sym, ap, ◌∙◌, subst}
 use Rattle.ahb.specs.Numbers.{verdict_number}
 use Rattle.refusal.specs.Known.{Among}
-use Rattle.ahbprint.specs.Sizes.{Printable}
-use Rattle.ahbprint.proofs.Sizes.{print_among}
+use Rattle.ahbprint.specs.Sizes.{Printable, print_among}
 use Rattle.ahbprint.proofs.ahb_print.Goals as goal
 
 pub print_number-requires : goal.print_number-requires
