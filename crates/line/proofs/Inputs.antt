@@ -230,24 +230,26 @@ kept_in_lem line b len w l = let e = w.ends in by (ltb (length (take len line)) 
 
 -- what `feed` says of the byte b
 abbrev Feeds : (b : ℕ) (h : Held) (s a v : List ℕ) (r : Held) (s' a' v' : List ℕ) → Type 0
-Feeds b h s a v r s' a' v' = Buffers r s' a' v' × ((kept_in r s' a' v' ≡ fed b (kept_in h s a v)) × (behind r s' a' v' ≡ behind r s a v))
+Feeds b h s a v r s' a' v' = record { buffers : Buffers r s' a' v'; value_after : kept_in r s' a' v' ≡ fed b (kept_in h s a v); value_unchanged : behind r s' a' v' ≡ behind r s a v }
 
 module _ (h : Held) (s a v : List ℕ) (b : ℕ) (k : Buffers h s a v) where
   -- a line feed
   pub line-fed : (row : ℕ) → row ≡ next_row h.row → b ≡ line_feed → Feeds b h s a v (record { row = row; status = h.status; answers = h.answers; value = h.value }) s a v
-  line-fed row e f = (
-    record { status_size = k.status_size; answers_size = k.answers_size; value_size = k.value_size; status_in = k.status_in; answers_in = k.answers_in; value_in = k.value_in },
-    (ap (λ (x : ℕ). at x (take h.status s) (take h.answers a) (take h.value v)) e ∙ fed-line b (kept_in h s a v) f, refl),
-  )
+  line-fed row e f = record {
+    buffers = record { status_size = k.status_size; answers_size = k.answers_size; value_size = k.value_size; status_in = k.status_in; answers_in = k.answers_in; value_in = k.value_in };
+    value_after = ap (λ (x : ℕ). at x (take h.status s) (take h.answers a) (take h.value v)) e ∙ fed-line b (kept_in h s a v) f;
+    value_unchanged = refl;
+  }
 
   module _ (other : b ≡ line_feed → ⊥) where
     -- a byte of the status
     pub status_fed : (new : List ℕ) (n : ℕ) → h.row ≡ 0 → length new ≡ length s → Appended (longer (length s) b (take h.status s)) 0 s new n
         → Feeds b h s a v (record { row = h.row; status = n; answers = h.answers; value = h.value }) new a v
-    status_fed new n z l w = (
-      record { status_size = l ∙ k.status_size; answers_size = k.answers_size; value_size = k.value_size; status_in = omega (arith, kept_in_lem s b h.status w (omega (arith, k.status_size, k.status_in)), k.status_size); answers_in = k.answers_in; value_in = k.value_in },
-      (ap (λ x. at h.row x (take h.answers a) (take h.value v)) (w.has ∙ ap (λ (x : ℕ). longer x b (take h.status s)) k.status_size) ∙ row_here ∙ fed-byte b (kept_in h s a v) other, ap (λ x. at h.row x (drop h.answers a) (drop h.value v)) w.rest),
-    )
+    status_fed new n z l w = record {
+      buffers = record { status_size = l ∙ k.status_size; answers_size = k.answers_size; value_size = k.value_size; status_in = omega (arith, kept_in_lem s b h.status w (omega (arith, k.status_size, k.status_in)), k.status_size); answers_in = k.answers_in; value_in = k.value_in };
+      value_after = ap (λ x. at h.row x (take h.answers a) (take h.value v)) (w.has ∙ ap (λ (x : ℕ). longer x b (take h.status s)) k.status_size) ∙ row_here ∙ fed-byte b (kept_in h s a v) other;
+      value_unchanged = ap (λ x. at h.row x (drop h.answers a) (drop h.value v)) w.rest;
+    }
       where
         row_here : at h.row (longer kept_status b (take h.status s)) (take h.answers a) (take h.value v) ≡ with_byte b (kept_in h s a v)
         row_here = rw (eq-eqb h.row 0 z)
@@ -255,10 +257,11 @@ module _ (h : Held) (s a v : List ℕ) (b : ℕ) (k : Buffers h s a v) where
     -- a letter
     pub answers_fed : (new : List ℕ) (n : ℕ) → h.row ≡ 1 → length new ≡ length a → Appended (longer (length a) b (take h.answers a)) 0 a new n
         → Feeds b h s a v (record { row = h.row; status = h.status; answers = n; value = h.value }) s new v
-    answers_fed new n z l w = (
-      record { status_size = k.status_size; answers_size = l ∙ k.answers_size; value_size = k.value_size; status_in = k.status_in; answers_in = omega (arith, kept_in_lem a b h.answers w (omega (arith, k.answers_size, k.answers_in)), k.answers_size); value_in = k.value_in },
-      (ap (λ x. at h.row (take h.status s) x (take h.value v)) (w.has ∙ ap (λ (x : ℕ). longer x b (take h.answers a)) k.answers_size) ∙ row_here ∙ fed-byte b (kept_in h s a v) other, ap (λ x. at h.row (drop h.status s) x (drop h.value v)) w.rest),
-    )
+    answers_fed new n z l w = record {
+      buffers = record { status_size = k.status_size; answers_size = l ∙ k.answers_size; value_size = k.value_size; status_in = k.status_in; answers_in = omega (arith, kept_in_lem a b h.answers w (omega (arith, k.answers_size, k.answers_in)), k.answers_size); value_in = k.value_in };
+      value_after = ap (λ x. at h.row (take h.status s) x (take h.value v)) (w.has ∙ ap (λ (x : ℕ). longer x b (take h.answers a)) k.answers_size) ∙ row_here ∙ fed-byte b (kept_in h s a v) other;
+      value_unchanged = ap (λ x. at h.row (drop h.status s) x (drop h.value v)) w.rest;
+    }
       where
         row_here : at h.row (take h.status s) (longer kept_answers b (take h.answers a)) (take h.value v) ≡ with_byte b (kept_in h s a v)
         row_here = rw (ne_eqb h.row 0 (λ q. omega (arith, q, z)), eq-eqb h.row 1 z)
@@ -266,17 +269,22 @@ module _ (h : Held) (s a v : List ℕ) (b : ℕ) (k : Buffers h s a v) where
     -- a byte of the value
     pub value-fed : (new : List ℕ) (n : ℕ) → h.row ≡ 2 → length new ≡ length v → Appended (longer (length v) b (take h.value v)) 0 v new n
         → Feeds b h s a v (record { row = h.row; status = h.status; answers = h.answers; value = n }) s a new
-    value-fed new n z l w = (
-      record { status_size = k.status_size; answers_size = k.answers_size; value_size = l ∙ k.value_size; status_in = k.status_in; answers_in = k.answers_in; value_in = omega (arith, kept_in_lem v b h.value w (omega (arith, k.value_size, k.value_in)), k.value_size) },
-      (ap (λ x. at h.row (take h.status s) (take h.answers a) x) (w.has ∙ ap (λ (x : ℕ). longer x b (take h.value v)) k.value_size) ∙ row_here ∙ fed-byte b (kept_in h s a v) other, ap (λ x. at h.row (drop h.status s) (drop h.answers a) x) w.rest),
-    )
+    value-fed new n z l w = record {
+      buffers = record { status_size = k.status_size; answers_size = k.answers_size; value_size = l ∙ k.value_size; status_in = k.status_in; answers_in = k.answers_in; value_in = omega (arith, kept_in_lem v b h.value w (omega (arith, k.value_size, k.value_in)), k.value_size) };
+      value_after = ap (λ x. at h.row (take h.status s) (take h.answers a) x) (w.has ∙ ap (λ (x : ℕ). longer x b (take h.value v)) k.value_size) ∙ row_here ∙ fed-byte b (kept_in h s a v) other;
+      value_unchanged = ap (λ x. at h.row (drop h.status s) (drop h.answers a) x) w.rest;
+    }
       where
         row_here : at h.row (take h.status s) (take h.answers a) (longer kept_value b (take h.value v)) ≡ with_byte b (kept_in h s a v)
         row_here = rw (ne_eqb h.row 0 (λ q. omega (arith, q, z)), ne_eqb h.row 1 (λ q. omega (arith, q, z)), eq-eqb h.row 2 z)
 
     -- a byte after the third line
     pub past-fed : (h.row ≡ 0 → ⊥) → (h.row ≡ 1 → ⊥) → (h.row ≡ 2 → ⊥) → Feeds b h s a v h s a v
-    past-fed x y z = (k, (row_here ∙ fed-byte b (kept_in h s a v) other, refl))
+    past-fed x y z = record {
+      buffers = k;
+      value_after = row_here ∙ fed-byte b (kept_in h s a v) other;
+      value_unchanged = refl;
+    }
       where
         row_here : kept_in h s a v ≡ with_byte b (kept_in h s a v)
         row_here = rw (ne_eqb h.row 0 x, ne_eqb h.row 1 y, ne_eqb h.row 2 z)
@@ -286,8 +294,8 @@ module _ (b : ℕ) (h r : Held) (s a v s' a' v' : List ℕ) (k : Buffers h s a v
   counts_on_lem : (h.status ≤ r.status) × (h.answers ≤ r.answers) × (h.value ≤ r.value)
   counts_on_lem =
       let l = fed-longer b (kept_in h s a v) in
-      let m = f.0 in
-      let e = f.1.0 in (
+      let m = f.buffers in
+      let e = f.value_after in (
         omega (arith, l.status, ap (λ x. length x.status) e, length-take-le h.status s (omega (arith, k.status_in, k.status_size)), length-take-le r.status s' (omega (arith, m.status_in, m.status_size))),
         omega (arith, l.answers, ap (λ x. length x.answers) e, length-take-le h.answers a (omega (arith, k.answers_in, k.answers_size)), length-take-le r.answers a' (omega (arith, m.answers_in, m.answers_size))),
         omega (arith, l.value, ap (λ x. length x.value) e, length-take-le h.value v (omega (arith, k.value_in, k.value_size)), length-take-le r.value v' (omega (arith, m.value_in, m.value_size))),
@@ -296,7 +304,7 @@ module _ (b : ℕ) (h r : Held) (s a v s' a' v' : List ℕ) (k : Buffers h s a v
   pub behind_on : (s₀ a₀ v₀ : List ℕ) → behind h s a v ≡ behind h s₀ a₀ v₀ → behind r s' a' v' ≡ behind r s₀ a₀ v₀
   behind_on s₀ a₀ v₀ e =
       let c = counts_on_lem in
-      f.1.1
+      f.value_unchanged
       ∙ ap (λ x. at r.row x (drop r.answers a) (drop r.value v)) (appends.on h.status r.status s₀ s c.0 (ap (λ x. x.status) e))
       ∙ ap (λ x. at r.row (drop r.status s₀) x (drop r.value v)) (appends.on h.answers r.answers a₀ a c.1 (ap (λ x. x.answers) e))
       ∙ ap (λ x. at r.row (drop r.status s₀) (drop r.answers a₀) x) (appends.on h.value r.value v₀ v c.2 (ap (λ x. x.value) e))

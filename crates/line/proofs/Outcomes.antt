@@ -40,14 +40,13 @@ use Rattle.packages.specs.Said.{pakete_said}
 use Rattle.packages.specs.declared.PaketeAnswer.{PaketeAnswer}
 use Rattle.verdicts.specs.Said.{violations_said}
 use Rattle.verdicts.specs.declared.ViolationsAnswer.{ViolationsAnswer}
-use Rattle.verdicts.specs.declared.BothAnswer.TheVariants as both
 use Rattle.reader.specs.Said.{status_said}
 use Rattle.reader.specs.declared.StatusAnswer.{StatusAnswer}
 use Rattle.reader.specs.declared.StatusAnswer.TheVariants as status
 use Rattle.line.specs.Sizes.{longest_rows, longest_list, longest_named}
 use Rattle.line.specs.Lines.{answer_bytes, figures, named, line, alone_lines, tree_lines, judged_lines, stated_lines, shown, lines, report_answer}
 use Rattle.line.specs.Parts.{numbers_from, AllBelow, Admitted}
-use Rattle.line.proofs.Texts.{answers_length, inside}
+use Rattle.line.proofs.Texts.{answers_length}
 use Rattle.line.proofs.Named.{numbers_got, listed}
 
 module _ {A : Type 0} where
@@ -252,16 +251,22 @@ module _ (s a v : List ℕ) (out : List ℕ) {n : ℕ} {old new : List ℕ} (w :
   report_is = refl
 
   -- 14
-  pub report_short : length out < n → (refuse NoRoom ≡ answer_of (report_answer s a v) (length out)) × (out ≡ written_of (report_answer s a v) out)
+  pub report_short : length out < n → record { result_value : refuse NoRoom ≡ answer_of (report_answer s a v) (length out); out_after : out ≡ written_of (report_answer s a v) out }
   report_short h =
       let l = with_length (lines s a v) in
       let short : length out < length (lines s a v) = omega (arith, h, w.ends) in
-      (sym (ap (λ x. answer_of x (length out)) report_is ∙ answer_short l (length out) short), sym (ap (λ x. written_of x out) report_is ∙ written_short l out short))
+      record {
+        result_value = sym (ap (λ x. answer_of x (length out)) report_is ∙ answer_short l (length out) short);
+        out_after = sym (ap (λ x. written_of x out) report_is ∙ written_short l out short);
+      }
 
   -- the lines
-  pub report_done : {q : ℕ} {after : List ℕ} → n ≤ length out → Appended (take n new) 0 out after q → (ok n ≡ answer_of (report_answer s a v) (length out)) × (after ≡ written_of (report_answer s a v) out)
+  pub report_done : {q : ℕ} {after : List ℕ} → n ≤ length out → Appended (take n new) 0 out after q → record { result_value : ok n ≡ answer_of (report_answer s a v) (length out); out_after : after ≡ written_of (report_answer s a v) out }
   report_done {q} {after} h p =
       let l = with_length (lines s a v) in
       let size : n ≡ length (lines s a v) = omega (arith, w.ends) in
       let room : length (lines s a v) ≤ length out = omega (arith, h, size) in
-      (ap ok size ∙ sym (ap (λ x. answer_of x (length out)) report_is ∙ answer_fits l (length out) room), whole (same w.has p) ∙ sym (ap (λ x. written_of x out) report_is ∙ written_fits l out room))
+      record {
+        result_value = ap ok size ∙ sym (ap (λ x. answer_of x (length out)) report_is ∙ answer_fits l (length out) room);
+        out_after = whole (same w.has p) ∙ sym (ap (λ x. written_of x out) report_is ∙ written_fits l out room);
+      }

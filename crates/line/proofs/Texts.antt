@@ -11,7 +11,6 @@ use borrow.Author.Tests.{ne_eqb, lt-ltb, le-ltb}
 use Rattle.utf8.specs.Utf8.{encode_char}
 use Rattle.grammar.specs.Quoted.{bytes}
 use Rattle.citation.specs.declared.Truth.{Truth}
-use Rattle.citation.specs.declared.Truth.TheVariants.{False, Unknown, True, Neutral}
 use Rattle.status.specs.declared.StatusKind.{StatusKind}
 use Rattle.status.specs.declared.StatusKind.TheVariants.{Muss, Soll, Kann, X, M, S, K}
 use Rattle.status.specs.Status.{word_of}

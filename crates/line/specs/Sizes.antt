@@ -1,5 +1,5 @@
 -- The longest parts of a report and of what it is made from, in bytes. Assumes nothing.
-use Rattle.std.specs.Prelude.{◌≡◌, refl, ℕ, ◌+◌, ◌-◌, ◌*◌}
+use Rattle.std.specs.Prelude.{◌≡◌, refl, ℕ, ◌+◌, ◌*◌}
 use Rattle.utf8.specs.Limits.{text_limit, value_limit}
 use Rattle.grammar.specs.Reading.{citation_limit, cited_limit, print_limit}
 use Rattle.grammar.specs.Bytes.{tree_limit}

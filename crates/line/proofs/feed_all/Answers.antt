@@ -1,4 +1,4 @@
-use Prim.Native.Nat.{◌+◌, ◌-◌}
+use Prim.Native.Nat.{◌+◌}
 use mathlib.Core.Path.{refl, sym, ap, ◌∙◌}
 use native.Mathlib.Omega.{arith}
 use lib.ListN.{drop}
@@ -13,7 +13,7 @@ pub feed-state-requires : goal.feed-state-requires
 feed-state-requires c = c.loop-i.invariant.1
 
 pub loop-i-preserved : goal.loop-i-preserved
-loop-i-preserved c = (omega arith, c.feed-state.ensures.buffers, ap (fed_all (drop (c.loop-i.i + 1) c.args.input.now)) c.feed-state.ensures.value_after.0 ∙ sym (fed-next c.args.input.now c.loop-i.i _ (omega arith)) ∙ c.loop-i.invariant.2, behind_on _ _ _ _ _ _ _ _ _ c.loop-i.invariant.1 c.feed-state.ensures _ _ _ c.loop-i.invariant.3, c.feed-state.auto.status ∙ c.loop-i.invariant.4, c.feed-state.auto.answers ∙ c.loop-i.invariant.5, c.feed-state.auto.value ∙ c.loop-i.invariant.6)
+loop-i-preserved c = (omega arith, c.feed-state.ensures.buffers, ap (fed_all (drop (c.loop-i.i + 1) c.args.input.now)) c.feed-state.ensures.value_after ∙ sym (fed-next c.args.input.now c.loop-i.i _ (omega arith)) ∙ c.loop-i.invariant.2, behind_on _ _ _ _ _ _ _ _ _ c.loop-i.invariant.1 c.feed-state.ensures _ _ _ c.loop-i.invariant.3, c.feed-state.auto.status ∙ c.loop-i.invariant.4, c.feed-state.auto.answers ∙ c.loop-i.invariant.5, c.feed-state.auto.value ∙ c.loop-i.invariant.6)
 
 pub shape_of-status : goal.shape_of-status
 shape_of-status c = c.loop-i.invariant.4
@@ -25,4 +25,8 @@ pub shape_of-value : goal.shape_of-value
 shape_of-value c = c.loop-i.invariant.6
 
 pub returns : goal.returns
-returns c = (c.loop-i.invariant.1, (fed_end c.args.input.now c.loop-i.i _ (omega arith) ∙ c.loop-i.invariant.2, c.loop-i.invariant.3))
+returns c = record {
+  buffers = c.loop-i.invariant.1;
+  value_after = fed_end c.args.input.now c.loop-i.i _ (omega arith) ∙ c.loop-i.invariant.2;
+  value_unchanged = c.loop-i.invariant.3;
+}
