@@ -21,7 +21,6 @@ use Rattle.semantics.specs.Answers.{eval_answer, truth_answer, violations_answer
 use Rattle.semantics.proofs.Flat as flats
 use Rattle.theorems.specs.Demand3.{Held, by_expression, by_status, IsHeld, flat_tree, Writes, print_in, PrintReads, AnswersAlike, SameIn, Promised}
 
-
 -- Where the trees come from.
 
 -- a tree that `Expr::parse` writes is the bytes of an expression that was read

@@ -3,20 +3,20 @@
 --
 -- | function | its contract | definitions to believe |
 -- |---|---|---|
--- | `reader::Expr::parse(text, out)` | said ≡ answerOf (parse_answer text) (length out); out after ≡ writtenOf (parse_answer text) out | grammar: Lex, Parse, Reading, Expr, Rows, Bytes, Outcome; utf8: Utf8, White, Limits |
+-- | `reader::Expr::parse(text, out)` | said ≡ answer_of (parse_answer text) (length out); out after ≡ written_of (parse_answer text) out | grammar: Lex, Parse, Reading, Expr, Rows, Bytes, Outcome; utf8: Utf8, White, Limits |
 -- | `reader::Status::parse(text, out)` | the same of status_answer text | grammar: Status; status: Status |
 -- | `printer::display(tree, out)` | the same of display_answer tree | grammar: Print, Bytes |
--- | `tree::is_tree(tree)` | ≡ is_tree tree | grammar: Bytes, by `tree-exactly` its encoder alone |
+-- | `tree::is_tree(tree)` | ≡ is_tree tree | grammar: Bytes, by `tree_exactly` its encoder alone |
 -- | `tree::cited(tree, number)` | said ≡ cited_answer tree number | tree: Cited |
--- | `presence::eval(tree, answers)` | said ≡ evalAnswer tree answers | semantics: Presence, Rules; citation: Kinds |
--- | `packages::pakete(tree, out)` | as display, of paketeAnswer tree | semantics: Packages; citation: Pakete |
--- | `verdicts::truth(tree, value)` | said ≡ truthAnswer tree value | semantics: Truth, Rules; formats: Table, Rules |
--- | `verdicts::violations(tree, value, out)` | as display, of violationsAnswer tree value | semantics: Violations |
--- | `verdicts::eval_and_truth(tree, answers, value)` | said ≡ evalAndTruthAnswer tree answers value | semantics: Answers |
+-- | `presence::eval(tree, answers)` | said ≡ eval_answer tree answers | semantics: Presence, Rules; citation: Kinds |
+-- | `packages::pakete(tree, out)` | as display, of pakete_answer tree | semantics: Packages; citation: Pakete |
+-- | `verdicts::truth(tree, value)` | said ≡ truth_answer tree value | semantics: Truth, Rules; formats: Table, Rules |
+-- | `verdicts::violations(tree, value, out)` | as display, of violations_answer tree value | semantics: Violations |
+-- | `verdicts::eval_and_truth(tree, answers, value)` | said ≡ eval_and_truth_answer tree answers value | semantics: Answers |
 -- | `citation::ConditionKind::of(text)` | said ≡ kind_answer text | citation: Kinds; text: Digits |
 -- | `citation::Paket::parse(text)` | said ≡ paket_answer text | citation: Pakete |
--- | `formats::evaluate(text, value)` | said ≡ verdictAnswer text value | formats: Table, Rules; decimal: Decimal; moment: Moments; calendar: Calendar |
--- | `formats::is_registered(text)` | said ≡ registeredAnswer text | formats: Table |
+-- | `formats::evaluate(text, value)` | said ≡ verdict_answer text value | formats: Table, Rules; decimal: Decimal; moment: Moments; calendar: Calendar |
+-- | `formats::is_registered(text)` | said ≡ registered_answer text | formats: Table |
 -- | `line::report(status, answers, value, out)` | as display, of report_answer status answers value | line: Lines |
 -- | `ahb_read`, `ahb_presence`, `ahb_verdicts` | the number of these answers; the buffer as above | ahb: Numbers, Answers |
 --

@@ -8,7 +8,7 @@ use Rattle.grammar.specs.Print.{printed}
 use Rattle.grammar.specs.Flat.{flat}
 use Rattle.grammar.specs.Bytes.{bytes_of, tree_of}
 use Rattle.grammar.specs.Theorems.{WasRead}
-use Rattle.grammar.specs.Outcome.{Outcome, answer_of, written_of, parse_answer, display_answer, with_tree, status_answer, accepted}
+use Rattle.grammar.specs.Outcome.{Outcome, answer_of, written_of, parse_answer, display_answer, with_tree, status_answer}
 use Rattle.semantics.specs.Answers.{eval_answer, truth_answer, violations_answer, eval_and_truth_answer, pakete_answer}
 
 -- a tree that is held: the first bytes of a buffer after `Expr::parse`, or `Status::parse`, was accepted with so many

@@ -5,7 +5,6 @@ use Rattle.semantics.specs.Answers.{eval_answer}
 use Rattle.ahb.specs.Numbers.{presence_number, verdict_number}
 use Rattle.ahb.specs.Answers.{verdicts_answer}
 
-
 -- what a tree and another are answered alike, in these numbers and in the bytes of a lent list
 pub record NumbersAlike (a b : List ℕ) : Type 0 where
   pub presence : (answers : List ℕ) → presence_number (eval_answer a answers) ≡ presence_number (eval_answer b answers)
