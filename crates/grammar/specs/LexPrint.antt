@@ -1,4 +1,4 @@
--- The printed bytes are UTF-8 and are lexed as the printed tokens. Assumes nothing.
+-- What it is that printed bytes are lexed as the printed tokens. The theorems stand in proofs/LexPrint. Assumes nothing.
 use Rattle.std.specs.Prelude.{◌≡◌, List, ◌++◌, true, ℕ}
 use Rattle.refusal.specs.Result.{Result, map_ok}
 use Rattle.utf8.specs.Utf8.{is_utf8, decode}

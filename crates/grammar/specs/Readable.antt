@@ -1,4 +1,4 @@
--- The trees that reading yields. Assumes nothing.
+-- The trees that reading yields. That it yields them stands in proofs/Readable. Assumes nothing.
 use Rattle.std.specs.Prelude.{◌≡◌, false}
 use Rattle.grammar.specs.Expr.{Op, Expr, Exprs, cite, Then, join, none, more, Two}
 use Rattle.grammar.specs.Parse.{same}

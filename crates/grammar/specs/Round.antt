@@ -1,4 +1,4 @@
--- The printed tokens of a readable tree are read as its flat tree. Assumes nothing.
+-- Operands that follow one another under one operator. The theorems stand in proofs/Round. Assumes nothing.
 use Rattle.grammar.specs.Expr.{Op, Exprs, none, more}
 use Rattle.grammar.specs.Parse.{Side, grow}
 

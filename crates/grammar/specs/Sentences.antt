@@ -1,4 +1,4 @@
--- The rules of reading in words (docs/FORMAT.md, 'Texts'), for all tokens that parse. Assumes nothing.
+-- Operands, runs of them and what operators link to them, in tokens (docs/FORMAT.md, 'Texts'). The theorems stand in proofs/Sentences. Assumes nothing.
 use Rattle.std.specs.Prelude.{◌≡◌, List, [], ◌∷◌, ◌++◌, ℕ}
 use Rattle.refusal.specs.Result.{ok}
 use Rattle.grammar.specs.Expr.{Op, Expr, Exprs, cite, none, ◌◂◌, ◌▸◌}

@@ -1,4 +1,4 @@
--- What follows a status word is read as an expression is. Assumes nothing.
+-- What a text states after a status word. The theorems stand in proofs/StatusLaws. Assumes nothing.
 use Rattle.std.specs.Prelude.{◌≡◌, List, ◌∷◌, ℕ}
 use Rattle.refusal.specs.Result.{ok}
 use Rattle.utf8.specs.Utf8.{decode, encode}

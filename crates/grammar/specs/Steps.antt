@@ -1,4 +1,4 @@
--- How reading goes on where a run of operands ends, and inside parentheses. Assumes nothing.
+-- How reading goes on where a run of operands ends, and inside parentheses. The theorems stand in proofs/Steps. Assumes nothing.
 use Rattle.std.specs.Prelude.{◌≡◌, List, [], ◌∷◌, ◌++◌}
 use Rattle.refusal.specs.Result.{Result, ok, refuse}
 use Rattle.refusal.specs.declared.Refusal.TheVariants.{MissingOperand, Parentheses}

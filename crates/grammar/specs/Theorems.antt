@@ -1,4 +1,4 @@
--- What holds of reading, printing, flat trees and tree bytes. Assumes nothing.
+-- Which expressions some text was read to. What holds of them stands in proofs/Theorems. Assumes nothing.
 use Rattle.std.specs.Prelude.{◌≡◌, List, ℕ}
 use Rattle.refusal.specs.Result.{ok}
 use Rattle.status.specs.declared.StatusKind.{StatusKind}

@@ -1,4 +1,4 @@
--- Bytes are a tree exactly if they are the bytes of an expression that fits. Assumes nothing.
+-- What bytes have that pass the test for a tree. That they are those of an expression that fits stands in proofs/Trees. Assumes nothing.
 use Rattle.std.specs.Prelude.{◌≡◌, List, true, ◌&&◌, ℕ, ◌+◌, ◌≤◌, eqb, leb, length, drop}
 use Rattle.std.proofs.Common.{eqb-true, leb-true}
 use Rattle.laws.specs.Tests.{and_both}

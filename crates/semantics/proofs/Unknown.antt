@@ -20,6 +20,7 @@ use Rattle.semantics.specs.Rules.{is_false, is_unknown, is_true, is_neutral, any
 use Rattle.semantics.specs.Presence.{presence_with, dropped, mixes, choice, before, valued, presence, values}
 use Rattle.semantics.specs.Evaluated.{evaluates, evaluates_of}
 use Rattle.semantics.proofs.Evaluated.{first_evaluated, rest_evaluated}
+use Rattle.semantics.specs.Unknown.{UnknownAmong, UnregisteredAmong}
 use Rattle.semantics.specs.Truth.{is_judged, truth_with, truths_with, cited_truth, counts_on}
 
 is_unknown_lem : (v : Truth) → is_unknown v ≡ true → v ≡ Unknown
@@ -91,24 +92,18 @@ split false (ok v) (refused k) vs h u = absurd (refused≢ok h)
 split false (refused k) r vs h u = absurd (refused≢ok h)
 
 module _ (oracle : ℕ → Result Truth) where
-  -- a citation that is evaluated and answered with Unknown
-  pub record UnknownAmong (evaluated : ℕ → Bool) : Type 0 where
-    pub number : ℕ
-    pub is_evaluated : evaluated number ≡ true
-    pub answer : oracle number ≡ ok Unknown
-
   mutual
     unfolding presence_with evaluates any
 
     -- an Unknown presence comes from a citation that is evaluated and answered with Unknown
-    pub unknown_cited : (n : ℕ) (e : Expr) → presence oracle n e ≡ ok Unknown → UnknownAmong (λ k. evaluates k n e)
+    pub unknown_cited : (n : ℕ) (e : Expr) → presence oracle n e ≡ ok Unknown → UnknownAmong oracle (λ k. evaluates k n e)
     unknown_cited n (cite t) h = record { number = n; is_evaluated = eq-eqb n n refl; answer = h }
     unknown_cited n (Then es) h = values_unknown false n es (given and_rule and_telling _ h)
     unknown_cited n (join And es) h = values_unknown false n es (given and_rule and_telling _ h)
     unknown_cited n (join Or es) h = values_unknown true n es (given_choice or_rule or_telling (mixes es) _ h)
     unknown_cited n (join Xor es) h = values_unknown true n es (given_choice xor_rule xor_telling (mixes es) _ h)
 
-    values_unknown : (choosing : Bool) (n : ℕ) (es : Exprs) → Given (values oracle choosing n es) → UnknownAmong (λ k. evaluates_of k choosing n es)
+    values_unknown : (choosing : Bool) (n : ℕ) (es : Exprs) → Given (values oracle choosing n es) → UnknownAmong oracle (λ k. evaluates_of k choosing n es)
     values_unknown choosing n none g = let same : [] ≡ g.0 = cc in absurd (false≢true (ap (any is_unknown) same ∙ g.2))
     values_unknown choosing n (more e es) g =
         ⊎_elim
@@ -121,18 +116,11 @@ module _ (oracle : ℕ → Result Truth) where
         (split (choosing && dropped e) (presence oracle n e) (values oracle choosing (n + count e) es) g.0 g.1 g.2)
 
 module _ (value : List ℕ) where
-  -- a cited Format or Zeitpunkt condition without an evaluator
-  pub record UnregisteredAmong (texts : List (List ℕ)) : Type 0 where
-    pub text : List ℕ
-    pub cited : Memᴰ text texts
-    pub judged : is_judged (kind_of text) ≡ true
-    pub unregistered : verdict text value ≡ Unregistered
-
-  unregistered_cited : (t : List ℕ) → is_unknown (cited_truth value t) ≡ true → UnregisteredAmong (t ∷ [])
+  unregistered_cited : (t : List ℕ) → is_unknown (cited_truth value t) ≡ true → UnregisteredAmong value (t ∷ [])
   unfolding cited_truth
   unregistered_cited t = go (is_judged (kind_of t)) (verdict t value) refl refl
     where
-      go : (j : Bool) (v : FormatVerdict) → is_judged (kind_of t) ≡ j → verdict t value ≡ v → is_unknown (cond j (verdict_truth v) True) ≡ true → UnregisteredAmong (t ∷ [])
+      go : (j : Bool) (v : FormatVerdict) → is_judged (kind_of t) ≡ j → verdict t value ≡ v → is_unknown (cond j (verdict_truth v) True) ≡ true → UnregisteredAmong value (t ∷ [])
       go true Holds p q h = absurd (false≢true h)
       go true Violated p q h = absurd (false≢true h)
       go true Unregistered p q h = record { text = t; cited = Memᴰ.head refl; judged = p; unregistered = q }
@@ -142,14 +130,14 @@ module _ (value : List ℕ) where
     unfolding truth_with citations any
 
     -- format truth is Unknown only if a cited Format or Zeitpunkt condition is Unregistered
-    pub truth_unknown_cited : (n : ℕ) (e : Expr) → is_unknown (truth_with (counts_on value) n e) ≡ true → UnregisteredAmong (citations e)
+    pub truth_unknown_cited : (n : ℕ) (e : Expr) → is_unknown (truth_with (counts_on value) n e) ≡ true → UnregisteredAmong value (citations e)
     truth_unknown_cited n (cite t) h = unregistered_cited t h
     truth_unknown_cited n (Then es) h = truths_unknown n es (and_telling (truths_with (counts_on value) n es) h)
     truth_unknown_cited n (join And es) h = truths_unknown n es (and_telling (truths_with (counts_on value) n es) h)
     truth_unknown_cited n (join Or es) h = truths_unknown n es (or_telling (truths_with (counts_on value) n es) h)
     truth_unknown_cited n (join Xor es) h = truths_unknown n es (or_telling (truths_with (counts_on value) n es) h)
 
-    truths_unknown : (n : ℕ) (es : Exprs) → any is_unknown (truths_with (counts_on value) n es) ≡ true → UnregisteredAmong (citations_of es)
+    truths_unknown : (n : ℕ) (es : Exprs) → any is_unknown (truths_with (counts_on value) n es) ≡ true → UnregisteredAmong value (citations_of es)
     truths_unknown n none h = absurd (false≢true h)
     truths_unknown n (more e es) h =
         ⊎_elim

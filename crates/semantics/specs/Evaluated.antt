@@ -1,4 +1,4 @@
--- Which citations presence evaluates: all but those in dropped operands. The others' answers change nothing. Assumes nothing.
+-- Which citations presence evaluates: all but those in dropped operands. The theorems stand in proofs/Evaluated. Assumes nothing.
 use Rattle.std.specs.Prelude.{Bool, true, false, not, ◌&&◌, ◌||◌, ℕ, ◌+◌, eqb}
 use Rattle.grammar.specs.Expr.{And, Or, Xor, Expr, Exprs, cite, Then, join, none, more, count}
 use Rattle.semantics.specs.Presence.{dropped}

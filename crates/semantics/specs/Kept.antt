@@ -1,4 +1,4 @@
--- Relations between truths that the rules of format truth keep: what holds of each citation holds of the whole. Assumes nothing.
+-- Relations between truths that the rules of format truth keep. The theorems stand in proofs/Kept. Assumes nothing.
 use Rattle.std.specs.Prelude.{◌≡◌, Bool, true, not, ◌&&◌, ◌||◌}
 use Rattle.citation.specs.declared.Truth.{Truth}
 use Rattle.citation.specs.declared.Truth.TheVariants.{Neutral}

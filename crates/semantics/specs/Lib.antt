@@ -8,3 +8,4 @@ pub mod Packages
 pub mod Answers
 pub mod Sentences
 pub mod Evaluated
+pub mod Unknown

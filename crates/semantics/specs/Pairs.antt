@@ -1,4 +1,4 @@
--- The rules of format truth, one operand joined to the others, and laws over all truths that are found by computing. Assumes nothing.
+-- The rules of format truth, one operand joined to the others. The laws, found by computing over all truths, stand in proofs/Pairs. Assumes nothing.
 use Rattle.std.specs.Prelude.{[], ◌∷◌, Bool, ◌&&◌, eqb}
 use Rattle.citation.specs.declared.Truth.{Truth}
 use Rattle.citation.specs.declared.Truth.TheVariants.{False, Unknown, True, Neutral}

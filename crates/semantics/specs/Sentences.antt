@@ -1,4 +1,4 @@
--- The rules of presence in words (docs/SEMANTICS.md, 'Presence'), as laws. Assumes nothing.
+-- Words for the rules of presence (docs/SEMANTICS.md, 'Presence'). The theorems stand in proofs/Sentences. Assumes nothing.
 use Rattle.std.specs.Prelude.{List, [], ◌∷◌, Bool, true, cond, ◌&&◌}
 use Rattle.citation.specs.declared.Truth.{Truth}
 use Rattle.citation.specs.declared.Truth.TheVariants.{False, Unknown, True, Neutral}

@@ -1,4 +1,4 @@
--- Demand 3, at the bytes that the public functions take and write. Assumes nothing.
+-- Demand 3, at the bytes that the public functions take and write: what is said. The theorems stand in proofs/Demand3. Assumes nothing.
 use Rattle.std.specs.Prelude.{◌≡◌, List, ◌++◌, ℕ, ◌≤◌, ◌<◌, length, take, drop}
 use Rattle.refusal.specs.Result.{Result, ok, refuse, map_ok}
 use Rattle.refusal.specs.declared.Refusal.TheVariants.{NoRoom}

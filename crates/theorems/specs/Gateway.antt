@@ -1,4 +1,4 @@
--- Demand 3 for the gateway: in the numbers of the three functions for C and Rust. Assumes nothing.
+-- Demand 3 for the gateway, in the numbers of the three functions for C and Rust: what is said. The theorems stand in proofs/Gateway. Assumes nothing.
 use Rattle.std.specs.Prelude.{◌≡◌, List, ℕ}
 use Rattle.grammar.specs.Outcome.{answer_of, written_of}
 use Rattle.semantics.specs.Answers.{eval_answer}

@@ -25,7 +25,7 @@ use Rattle.semantics.specs.Evaluated.{evaluates}
 use Rattle.semantics.specs.Truth.{truth}
 use Rattle.semantics.proofs.Sentences.{answered_unknown}
 use Rattle.semantics.proofs.Unknown as unknown
-use Rattle.semantics.proofs.Unknown.{UnregisteredAmong}
+use Rattle.semantics.specs.Unknown.{UnregisteredAmong}
 use Rattle.semantics.specs.Answers.{presence_by, eval_answer, truth_answer}
 
 -- the sizes of a tree, and of its print
