@@ -15,12 +15,14 @@ use Rattle.grammar.specs.Expr.{Expr, Exprs, cite, Then, join, none, more, ◌◂
 use Rattle.grammar.specs.Rows.{Row, row, op_kind, many, node, rows, rows_of, span, spans, made, rows_span, rows_spans}
 use Rattle.grammar.specs.Bytes.{size_of, tiles, row_ok, rows_ok}
 
+-- the span that the first row of a tree's rows gives
 pub size_rows : (n : ℕ) (e : Expr) (rs : List Row) → size_of (rows n e ++ rs) ≡ span e
 unfolding size_of rows node span
 size_rows n (cite t) rs = refl
 size_rows n (Then es) rs = rw (rows_spans n es)
 size_rows n (join o es) rs = rw (rows_spans n es)
 
+-- what stands behind a tree's rows
 pub drop_rows : (n : ℕ) (e : Expr) (rs : List Row) → drop (span e) (rows n e ++ rs) ≡ rs
 drop_rows n e rs = rw (← rows_span n e) (drop-append_seam (rows n e) rs)
 

@@ -74,6 +74,7 @@ pub record Tests (b : List ℕ) : Type 0 where
   pub rowed : rows_ok 0 (cites b) (rows_in b) ≡ true
   pub cited : cites_ok b (cites b) (cites_at b) (texts_at b) ≡ true
 
+-- the one expression that operands are
 pub record Only (es : Exprs) : Type 0 where
   pub root : Expr
   pub only : es ≡ root ◂ none
