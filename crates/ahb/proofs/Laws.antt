@@ -1,4 +1,5 @@
 -- An answer's number and the lent bytes, by the mode. Assumes nothing.
+use Rattle.std.specs.Prelude.{Result, Ok, Err}
 use mathlib.Core.Path.{◌≡◌, refl, sym, ap, ◌∙◌}
 use mathlib.Core.List.{List}
 use mathlib.Core.Bool.{Bool, true, false}
@@ -7,7 +8,8 @@ use native.Mathlib.Omega.{arith}
 use lib.Dec.{leb}
 use lib.ListN.{length}
 use borrow.Author.Tests.{eq-eqb, ne_eqb}
-use Rattle.refusal.specs.Result.{Result, ok, refused, unless, then, map_ok}
+use Rattle.refusal.specs.declared.Refusal.{Refusal}
+use Rattle.refusal.specs.Result.{unless, then, map_ok}
 use Rattle.refusal.specs.declared.Refusal.TheVariants.{NoRoom}
 use Rattle.citation.specs.declared.Truth.{Truth}
 use Rattle.citation.specs.Truths.{truth_number}
@@ -22,34 +24,34 @@ module _ {A B : Type 0} (f : A → B) where
   said_number_lem : (least : ℕ) (number : B → ℕ) (r : Outcome A) (n : ℕ)
       → answer_number least number (answer_of (map_ok (said_by f) r) n) ≡ answer_number least (λ a. number (f a)) (answer_of r n)
   unfolding answer_of map_ok then
-  said_number_lem least number (ok w) n = by (leb (length w.bytes) n)
+  said_number_lem least number (Ok w) n = by (leb (length w.bytes) n)
     where
-      by : (t : Bool) → answer_number least number (unless t NoRoom (ok (f w.answer))) ≡ answer_number least (λ a. number (f a)) (unless t NoRoom (ok w.answer))
+      by : (t : Bool) → answer_number least number (unless t NoRoom (Ok (f w.answer))) ≡ answer_number least (λ a. number (f a)) (unless t NoRoom (Ok w.answer))
       by true = refl
       by false = refl
-  said_number_lem least number (refused k) n = refl
+  said_number_lem least number (Err k) n = refl
 
   -- and the same bytes
   pub said_written : (r : Outcome A) (old : List ℕ) → written_of (map_ok (said_by f) r) old ≡ written_of r old
   unfolding written_of map_ok
-  said_written (ok w) old = refl
-  said_written (refused k) old = refl
+  said_written (Ok w) old = refl
+  said_written (Err k) old = refl
 
 -- a truth needs no room
-truth_number_lem : (r : Result Truth) (n : ℕ) → verdict_number (answer_of (map_ok truth_written r) n) ≡ answer_number accepted_from truth_number r
+truth_number_lem : (r : Result Truth Refusal) (n : ℕ) → verdict_number (answer_of (map_ok truth_written r) n) ≡ answer_number accepted_from truth_number r
 unfolding answer_of map_ok then
-truth_number_lem (ok v) n = ap (λ x. verdict_number x) (answer_fits (truth_written v) n (omega arith))
-truth_number_lem (refused k) n = refl
+truth_number_lem (Ok v) n = ap (λ x. verdict_number x) (answer_fits (truth_written v) n (omega arith))
+truth_number_lem (Err k) n = refl
 
 -- and writes nothing
-truth_written_lem : (r : Result Truth) (old : List ℕ) → written_of (map_ok truth_written r) old ≡ old
+truth_written_lem : (r : Result Truth Refusal) (old : List ℕ) → written_of (map_ok truth_written r) old ≡ old
 unfolding written_of map_ok
-truth_written_lem (ok v) old = written_fits (truth_written v) old (omega arith)
-truth_written_lem (refused k) old = refl
+truth_written_lem (Ok v) old = written_fits (truth_written v) old (omega arith)
+truth_written_lem (Err k) old = refl
 
 module _ (mode : ℕ) (s old new : List ℕ) (r : ℕ) where
   -- an expression
-  pub read-expression : (a : Result ℕ) → mode ≡ 0 → r ≡ answer_number accepted_from expression_number a → a ≡ answer_of (parse_answer s) (length old) → new ≡ written_of (parse_answer s) old
+  pub read-expression : (a : Result ℕ Refusal) → mode ≡ 0 → r ≡ answer_number accepted_from expression_number a → a ≡ answer_of (parse_answer s) (length old) → new ≡ written_of (parse_answer s) old
       → record { value : r ≡ read_number (answer_of (read_answer mode s) (length old)); out_after : new ≡ written_of (read_answer mode s) old }
   unfolding read_answer
   read-expression a m e h w =
@@ -59,7 +61,7 @@ module _ (mode : ℕ) (s old new : List ℕ) (r : ℕ) where
       }
 
   -- a status
-  pub read_status : (a : Result StatusSaid) → (mode ≡ 0 → ⊥) → r ≡ answer_number accepted_from status_number a → a ≡ answer_of (status_answer s) (length old) → new ≡ written_of (status_answer s) old
+  pub read_status : (a : Result StatusSaid Refusal) → (mode ≡ 0 → ⊥) → r ≡ answer_number accepted_from status_number a → a ≡ answer_of (status_answer s) (length old) → new ≡ written_of (status_answer s) old
       → record { value : r ≡ read_number (answer_of (read_answer mode s) (length old)); out_after : new ≡ written_of (read_answer mode s) old }
   unfolding read_answer
   read_status a m e h w =
@@ -70,7 +72,7 @@ module _ (mode : ℕ) (s old new : List ℕ) (r : ℕ) where
 
 module _ (mode : ℕ) (tree v old : List ℕ) (r : ℕ) where
   -- the truth
-  pub verdict-truth : (a : Result Truth) → mode ≡ 0 → r ≡ answer_number accepted_from truth_number a → a ≡ truth_answer tree v
+  pub verdict-truth : (a : Result Truth Refusal) → mode ≡ 0 → r ≡ answer_number accepted_from truth_number a → a ≡ truth_answer tree v
       → record { value : r ≡ verdict_number (answer_of (verdicts_answer mode tree v) (length old)); list_after : old ≡ written_of (verdicts_answer mode tree v) old }
   unfolding verdicts_answer
   verdict-truth a m e h =
@@ -80,7 +82,7 @@ module _ (mode : ℕ) (tree v old : List ℕ) (r : ℕ) where
       }
 
   -- the violations
-  pub verdict-violations : (new : List ℕ) (a : Result ℕ) → (mode ≡ 0 → ⊥) → r ≡ verdict_number a → a ≡ answer_of (violations_answer tree v) (length old) → new ≡ written_of (violations_answer tree v) old
+  pub verdict-violations : (new : List ℕ) (a : Result ℕ Refusal) → (mode ≡ 0 → ⊥) → r ≡ verdict_number a → a ≡ answer_of (violations_answer tree v) (length old) → new ≡ written_of (violations_answer tree v) old
       → record { value : r ≡ verdict_number (answer_of (verdicts_answer mode tree v) (length old)); list_after : new ≡ written_of (verdicts_answer mode tree v) old }
   unfolding verdicts_answer
   verdict-violations new a m e h w = rw (ne_eqb mode 0 m) record {

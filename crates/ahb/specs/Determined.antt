@@ -1,14 +1,15 @@
 -- The number that is answered determines the answer. Assumes nothing.
-use Rattle.std.specs.Prelude.{◌≡◌, List, ℕ, ◌≤◌, ◌<◌, eqb}
+use Rattle.std.specs.Prelude.{◌≡◌, List, ℕ, ◌≤◌, ◌<◌, eqb, Result, Ok, Err, Some, None}
 use Rattle.std.proofs.Common.{ap, ◌∙◌, arith}
 use Rattle.laws.specs.Tests.{cond_both}
-use Rattle.refusal.specs.Result.{Result, ok, refused}
+use Rattle.refusal.specs.declared.Refusal.{Refusal}
+use Rattle.refusal.specs.Refusals.{number_injective}
 use Rattle.refusal.specs.Known.{Among, Known, last_refusal, named_most, among_known, map-among, map_known}
 use Rattle.status.specs.declared.StatusKind.{StatusKind}
 use Rattle.status.specs.declared.StatusKind.TheVariants.{Muss, Soll, Kann, X, M, S, K}
 use Rattle.status.specs.Status.{code_of, code_injective}
 use Rattle.citation.specs.Truths.{truth_number, truth_number_injective}
-use Rattle.grammar.specs.Outcome.{answer_of, StatusSaid, word_alone, with_tree, parse_answer, status_answer}
+use Rattle.grammar.specs.Outcome.{answer_of, StatusSaid, parse_answer, status_answer}
 use Rattle.semantics.specs.Answers.{eval_answer, truth_answer, violations_answer}
 use Rattle.semantics.proofs.Known.{eval_known, truth_known}
 use Rattle.ahb.specs.Numbers.{accepted_from, present_from, answer_number, ReadSaid, expression, status, said_number, read_number, presence_number, verdict_number}
@@ -17,11 +18,11 @@ use Rattle.ahb.specs.Sizes.{Short, ShortStatus, CountFew, answer_among, parse-ou
 
 module _ {A : Type 0} (least : ℕ) (number : A → ℕ) (P : A → Type 0) (same : (a b : A) → P a → P b → number a ≡ number b → a ≡ b) where
   -- a number over the refusals' tells the answer, if the answers' numbers do
-  pub answer_number_injective : last_refusal < least → (a b : Result A) → Among P a → Among P b → answer_number least number a ≡ answer_number least number b → a ≡ b
-  answer_number_injective l (ok a) (ok b) p q h = ap ok (same a b p q (omega (arith, h)))
-  answer_number_injective l (ok a) (refused k) p q h = absurd (omega (arith, l, named_most q.0, q.1, h))
-  answer_number_injective l (refused k) (ok a) p q h = absurd (omega (arith, l, named_most p.0, p.1, h))
-  answer_number_injective l (refused j) (refused k) p q h = ap refused h
+  pub answer_number_injective : last_refusal < least → (a b : Result A Refusal) → Among P a → Among P b → answer_number least number a ≡ answer_number least number b → a ≡ b
+  answer_number_injective l (Ok a) (Ok b) p q h = ap Ok (same a b p q (omega (arith, h)))
+  answer_number_injective l (Ok a) (Err k) p q h = absurd (omega (arith, l, named_most q.0, q.1, h))
+  answer_number_injective l (Err k) (Ok a) p q h = absurd (omega (arith, l, named_most p.0, p.1, h))
+  answer_number_injective l (Err j) (Err k) p q h = ap Err (number_injective j k h)
 
 code_most : (k : StatusKind) → code_of k ≤ 6
 code_most Muss = omega arith
@@ -34,19 +35,19 @@ code_most K = omega arith
 
 -- a status by its number
 status_number_injective : (a b : StatusSaid) → ShortStatus a → ShortStatus b → said_number (status a) ≡ said_number (status b) → a ≡ b
-status_number_injective (word_alone j) (word_alone k) p q h = ap word_alone (code_injective j k (omega (arith, h)))
-status_number_injective (word_alone j) (with_tree k n) p q h = absurd (omega (arith, h, q.0, q.1))
-status_number_injective (with_tree j m) (word_alone k) p q h = absurd (omega (arith, h, p.0, p.1))
-status_number_injective (with_tree j m) (with_tree k n) p q h =
+status_number_injective (j, None) (k, None) p q h = ap (λ x. (x, None)) (code_injective j k (omega (arith, h)))
+status_number_injective (j, None) (k, Some n) p q h = absurd (omega (arith, h, q.0, q.1))
+status_number_injective (j, Some m) (k, None) p q h = absurd (omega (arith, h, p.0, p.1))
+status_number_injective (j, Some m) (k, Some n) p q h =
     let code : code_of j ≡ code_of k = omega (arith, h, p.1, q.1) in
     let kind = code_injective j k code in
     let size : m ≡ n = omega (arith, h, code) in
-    ap (λ x. with_tree x m) kind ∙ ap (with_tree k) size
+    ap (λ x. (x, Some m)) kind ∙ ap (λ n. (k, Some n)) size
 
 -- no status has the number of an expression
 status_below : (s : StatusSaid) → ShortStatus s → said_number (status s) < said_number (expression 0)
-status_below (word_alone k) p = omega (arith, code_most k)
-status_below (with_tree k n) p = omega (arith, code_most k, p.1)
+status_below (k, None) p = omega (arith, code_most k)
+status_below (k, Some n) p = omega (arith, code_most k, p.1)
 
 -- what reading says, with a length that fits
 abbrev pub ShortSaid : ReadSaid → Type 0
@@ -60,7 +61,7 @@ said_number_injective (status s) (expression n) p q h = absurd (omega (arith, h,
 said_number_injective (status s) (status t) p q h = ap status (status_number_injective s t p q h)
 
 -- the number of a reading whose length fits, or of a refusal of the table, is that of no other
-pub read_number_injective : (a b : Result ReadSaid) → Among ShortSaid a → Among ShortSaid b → read_number a ≡ read_number b → a ≡ b
+pub read_number_injective : (a b : Result ReadSaid Refusal) → Among ShortSaid a → Among ShortSaid b → read_number a ≡ read_number b → a ≡ b
 read_number_injective = answer_number_injective accepted_from said_number ShortSaid said_number_injective (omega arith)
 
 -- every reading is of these

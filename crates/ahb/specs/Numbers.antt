@@ -1,10 +1,11 @@
 -- The answers of the C functions as numbers. Assumes nothing.
-use Rattle.std.specs.Prelude.{ℕ, ◌+◌, ◌*◌}
-use Rattle.refusal.specs.Result.{Result, ok, refused}
+use Rattle.std.specs.Prelude.{ℕ, ◌+◌, ◌*◌, Result, Ok, Err, Some, None}
 use Rattle.status.specs.Status.{code_of}
 use Rattle.citation.specs.declared.Truth.{Truth}
 use Rattle.citation.specs.Truths.{truth_number}
-use Rattle.grammar.specs.Outcome.{StatusSaid, word_alone, with_tree}
+use Rattle.grammar.specs.Outcome.{StatusSaid}
+use Rattle.refusal.specs.declared.Refusal.{Refusal}
+use Rattle.refusal.specs.Refusals.{number_of}
 
 -- the least accepted answer of 64 bits, 2^32
 abbrev pub accepted_from : ℕ
@@ -23,9 +24,9 @@ abbrev pub expression_code : ℕ
 expression_code = 7
 
 -- an answer as one number: an accepted one's after the least, a refusal's its own
-abbrev pub answer_number : {A : Type 0} → (least : ℕ) → (A → ℕ) → Result A → ℕ
-answer_number least number (ok a) = least + number a
-answer_number least number (refused k) = k
+abbrev pub answer_number : {A : Type 0} → (least : ℕ) → (A → ℕ) → Result A Refusal → ℕ
+answer_number least number (Ok a) = least + number a
+answer_number least number (Err why) = number_of why
 
 -- a code and a length
 abbrev pub coded : (code length : ℕ) → ℕ
@@ -42,8 +43,8 @@ expression_number n = coded expression_code n
 
 -- the number of a status; a word alone has the length 0
 abbrev pub status_number : StatusSaid → ℕ
-status_number (word_alone k) = coded (code_of k) 0
-status_number (with_tree k n) = coded (code_of k) n
+status_number (k, None) = coded (code_of k) 0
+status_number (k, Some n) = coded (code_of k) n
 
 -- the number of what reading says
 abbrev pub said_number : ReadSaid → ℕ
@@ -51,13 +52,13 @@ said_number (expression n) = expression_number n
 said_number (status s) = status_number s
 
 -- what `ahb_read` answers
-abbrev pub read_number : Result ReadSaid → ℕ
+abbrev pub read_number : Result ReadSaid Refusal → ℕ
 read_number r = answer_number accepted_from said_number r
 
 -- what `ahb_presence` answers
-abbrev pub presence_number : Result Truth → ℕ
+abbrev pub presence_number : Result Truth Refusal → ℕ
 presence_number r = answer_number present_from truth_number r
 
 -- what `ahb_verdicts` answers, the truth's number or the count
-abbrev pub verdict_number : Result ℕ → ℕ
+abbrev pub verdict_number : Result ℕ Refusal → ℕ
 verdict_number r = answer_number accepted_from (λ n. n) r

@@ -1,8 +1,8 @@
 -- How large an accepted answer is. Assumes nothing.
-use Rattle.std.specs.Prelude.{◌≡◌, List, [], ℕ, ◌≤◌, ◌<◌, leb, length}
+use Rattle.std.specs.Prelude.{◌≡◌, List, [], ℕ, ◌≤◌, ◌<◌, leb, length, Ok, Err, Some, None}
 use Rattle.std.proofs.Common.{subst, arith}
 use Rattle.laws.specs.Tests.{cond_both}
-use Rattle.refusal.specs.Result.{ok, refused, unless, unless_ok}
+use Rattle.refusal.specs.Result.{unless, unless_ok}
 use Rattle.refusal.specs.declared.Refusal.TheVariants.{NoRoom, NotATree}
 use Rattle.refusal.specs.Known.{Among, unless-among, known_among, map-among, then-among}
 use Rattle.utf8.specs.Limits.{value_limit, admitted}
@@ -13,7 +13,7 @@ use Rattle.grammar.specs.Status.{Stated, alone, stated, status_reading}
 use Rattle.grammar.proofs.StatusLaws.{status_states}
 use Rattle.grammar.specs.Bytes.{bytes_of, is_tree, tree_at, tree_of}
 use Rattle.grammar.proofs.Theorems.{bytes-length, few_bytes}
-use Rattle.grammar.specs.Outcome.{Written, Outcome, answer_of, StatusSaid, word_alone, with_tree, stated_bytes, parse_answer, status_answer}
+use Rattle.grammar.specs.Outcome.{Written, Outcome, answer_of, StatusSaid, stated_bytes, parse_answer, status_answer}
 use Rattle.grammar.proofs.Known.{admitted-among, reading_known, status_known, tree_of_known}
 use Rattle.semantics.specs.Rules.{is_false}
 use Rattle.semantics.specs.Truth.{counts_on, truth}
@@ -29,20 +29,20 @@ Short n = (0 < n) × (n < code_step)
 
 -- a status whose tree has such a length
 abbrev pub ShortStatus : StatusSaid → Type 0
-ShortStatus (word_alone k) = Unit
-ShortStatus (with_tree k n) = Short n
+ShortStatus (k, None) = Unit
+ShortStatus (k, Some n) = Short n
 
 module _ {A : Type 0} (P : A → Type 0) where
   -- 14 changes no answer
   pub answer_among : (r : Outcome A) (n : ℕ) → Among (λ w. P w.answer) r → Among P (answer_of r n)
   unfolding answer_of
   answer_among r n h =
-      then-among P r (λ w. unless (leb (length w.bytes) n) NoRoom (ok w.answer))
+      then-among P r (λ w. unless (leb (length w.bytes) n) NoRoom (Ok w.answer))
       (within r h)
     where
-      within : (o : Outcome A) → Among (λ w. P w.answer) o → Among (λ w. Among P (unless (leb (length w.bytes) n) NoRoom (ok w.answer))) o
-      within (ok w) p = unless-among P (leb (length w.bytes) n) NoRoom (ok w.answer) p
-      within (refused k) p = p
+      within : (o : Outcome A) → Among (λ w. P w.answer) o → Among (λ w. Among P (unless (leb (length w.bytes) n) NoRoom (Ok w.answer))) o
+      within (Ok w) p = unless-among P (leb (length w.bytes) n) NoRoom (Ok w.answer) p
+      within (Err k) p = p
 
 -- a tree has bytes, and not too many
 fits_short : (e : Expr) → Fits e → Short (length (bytes_of e))
@@ -64,7 +64,7 @@ pub status_outcome_lem : (s : List ℕ) → Among (λ w. ShortStatus w.answer) (
 unfolding status_answer
 status_outcome_lem s = map-among (λ w. ShortStatus w.answer) stated_bytes (status_reading s) (known_among (λ x. ShortStatus (stated_bytes x).answer) (status_reading s) (status_known s) by)
   where
-    by : (x : Stated) → status_reading s ≡ ok x → ShortStatus (stated_bytes x).answer
+    by : (x : Stated) → status_reading s ≡ Ok x → ShortStatus (stated_bytes x).answer
     by (alone k) h = tt
     by (stated k e) h = let t = status_states s k e h in fits_short e (reading_given _ e t.reads).1
 
@@ -82,11 +82,11 @@ violations-few value e f =
     cond_both (λ (l : List ℕ). Few (length l)) (is_false (truth value e)) (violated (counts_on value) 0 e) [] (λ _. omega (arith, violated_few (counts_on value) 0 e, f.few)) λ _. omega arith
 
 -- a tree is that of an expression that fits the limits
-pub tree_fits : (b : List ℕ) (e : Expr) → tree_of b ≡ ok e → Fits e
+pub tree_fits : (b : List ℕ) (e : Expr) → tree_of b ≡ Ok e → Fits e
 unfolding tree_of
 tree_fits b e h =
-    let t = unless_ok (is_tree b) NotATree (ok (tree_at b 0)) e h in
-    let other : ok (tree_at b 0) ≡ ok e = t.1 in
+    let t = unless_ok (is_tree b) NotATree (Ok (tree_at b 0)) e h in
+    let other : Ok (tree_at b 0) ≡ Ok e = t.1 in
     let same : tree_at b 0 ≡ e = cc in
     subst Fits same (root b t.0).fits
 
@@ -95,15 +95,15 @@ abbrev pub CountFew : Written ℕ → Type 0
 CountFew w = Few w.answer
 
 abbrev judged_by : List ℕ → Expr → Outcome ℕ
-judged_by value e = admitted value_limit value (ok (numbered (violations value e)))
+judged_by value e = admitted value_limit value (Ok (numbered (violations value e)))
 
 -- the count of violated citations
 pub violations-outcome : (b value : List ℕ) → Among CountFew (violations_answer b value)
 unfolding violations_answer
 violations-outcome b value = then-among CountFew (tree_of b) (judged_by value) (known_among (λ e. Among CountFew (judged_by value e)) (tree_of b) (tree_of_known b) by)
   where
-    by : (e : Expr) → tree_of b ≡ ok e → Among CountFew (judged_by value e)
-    by e h = admitted-among CountFew value_limit value (ok (numbered (violations value e))) (violations-few value e (tree_fits b e h))
+    by : (e : Expr) → tree_of b ≡ Ok e → Among CountFew (judged_by value e)
+    by e h = admitted-among CountFew value_limit value (Ok (numbered (violations value e))) (violations-few value e (tree_fits b e h))
 
 -- as it is answered
 pub violations-among : (b value : List ℕ) (n : ℕ) → Among Few (answer_of (violations_answer b value) n)

@@ -6,16 +6,15 @@ ghost use Rattle.std.specs.Prelude.{◌≡◌, ◌+◌, ◌≤◌, length};
 ghost use Rattle.citation.specs.Truths.{truth_number};
 ghost use Rattle.grammar.specs.Outcome.{answer_of, written_of};
 ghost use Rattle.semantics.specs.Answers.{eval_answer};
-ghost use Rattle.reader.specs.Said.{parse_said, status_said};
-ghost use Rattle.verdicts.specs.Said.{truth_said, violations_said};
 ghost use Rattle.ahb.specs.Numbers.{accepted_from, code_step, coded, answer_number, expression_number, status_number, read_number, presence_number, verdict_number};
 ghost use Rattle.ahb.specs.Answers.{read_answer, verdicts_answer};
 ghost use Rattle.refusal.specs.Known.{Among};
 ghost use Rattle.ahb.specs.Sizes.{Short, ShortStatus, Few};
 
-use presence::EvalAnswer;
-use reader::{Expr, ParseAnswer, Status, StatusAnswer};
-use verdicts::{TruthAnswer, ViolationsAnswer};
+use citation::Truth;
+use reader::{Expr, Status};
+use refusal::Refusal;
+use status::StatusKind;
 
 // The least accepted answer of 64 bits, and of 32.
 const ACCEPTED: u64 = 4294967296;
@@ -25,10 +24,10 @@ const PRESENT: u32 = 256;
 // What one step of a code weighs.
 const CODE_STEP: u64 = 65536;
 
-// The code of an expression, where a status has the code of its word.
+// The code of an expression, where a status has the code of its word: numbers, since C gets them.
 const EXPRESSION: u8 = 7;
 
-// The mode that reads an expression, and the one that judges the truth.
+// The mode that reads an expression, and the one that judges the truth: numbers, since C passes them.
 const EXPRESSION_MODE: u8 = 0;
 
 const TRUTH_MODE: u8 = 0;
@@ -38,27 +37,28 @@ fn accepted(code: u8, length: usize) -> u64
     requires { length ≤ code_step }
     ensures { result ≡ accepted_from + coded code length }
 {
-    ACCEPTED + (CODE_STEP * code as u64 + length as u64)
+    ACCEPTED + (CODE_STEP * u64::from(code) + length as u64)
 }
 
-fn expression_number(answer: ParseAnswer) -> u64
-    requires { Among Short (parse_said answer) }
-    ensures { result ≡ answer_number accepted_from expression_number (parse_said answer) }
+// The numbers of four answers: each has a bound and a definition of its own, so they stay four functions.
+fn expression_number(answer: Result<usize, Refusal>) -> u64
+    requires { Among Short answer }
+    ensures { result ≡ answer_number accepted_from expression_number answer }
 {
     match answer {
-        ParseAnswer::Refused(why) => why.number() as u64,
-        ParseAnswer::Length(length) => accepted(EXPRESSION, length),
+        Err(why) => u64::from(u8::from(why)),
+        Ok(length) => accepted(EXPRESSION, length),
     }
 }
 
-fn status_number(answer: StatusAnswer) -> u64
-    requires { Among ShortStatus (status_said answer) }
-    ensures { result ≡ answer_number accepted_from status_number (status_said answer) }
+fn status_number(answer: Result<(StatusKind, Option<usize>), Refusal>) -> u64
+    requires { Among ShortStatus answer }
+    ensures { result ≡ answer_number accepted_from status_number answer }
 {
     match answer {
-        StatusAnswer::Refused(why) => why.number() as u64,
-        StatusAnswer::Alone(kind) => accepted(kind.code(), 0),
-        StatusAnswer::Tree { kind, length } => accepted(kind.code(), length),
+        Err(why) => u64::from(u8::from(why)),
+        Ok((kind, None)) => accepted(u8::from(kind), 0),
+        Ok((kind, Some(length))) => accepted(u8::from(kind), length),
     }
 }
 
@@ -79,27 +79,27 @@ pub fn ahb_presence(tree: &[u8], answers: &[u8]) -> u32
     ensures { result ≡ presence_number (eval_answer tree.now answers.now) }
 {
     match presence::eval(tree, answers) {
-        EvalAnswer::Refused(why) => why.number() as u32,
-        EvalAnswer::Value(value) => PRESENT + value.number() as u32,
+        Err(why) => u32::from(u8::from(why)),
+        Ok(value) => PRESENT + u32::from(u8::from(value)),
     }
 }
 
-fn truth_number(answer: TruthAnswer) -> u64
-    ensures { result ≡ answer_number accepted_from truth_number (truth_said answer) }
+fn truth_number(answer: Result<Truth, Refusal>) -> u64
+    ensures { result ≡ answer_number accepted_from truth_number answer }
 {
     match answer {
-        TruthAnswer::Refused(why) => why.number() as u64,
-        TruthAnswer::Value(value) => ACCEPTED + value.number() as u64,
+        Err(why) => u64::from(u8::from(why)),
+        Ok(value) => ACCEPTED + u64::from(u8::from(value)),
     }
 }
 
-fn violations_number(answer: ViolationsAnswer) -> u64
-    requires { Among Few (violations_said answer) }
-    ensures { result ≡ verdict_number (violations_said answer) }
+fn violations_number(answer: Result<usize, Refusal>) -> u64
+    requires { Among Few answer }
+    ensures { result ≡ verdict_number answer }
 {
     match answer {
-        ViolationsAnswer::Refused(why) => why.number() as u64,
-        ViolationsAnswer::Count(count) => ACCEPTED + count as u64,
+        Err(why) => u64::from(u8::from(why)),
+        Ok(count) => ACCEPTED + count as u64,
     }
 }
 

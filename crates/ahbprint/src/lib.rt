@@ -4,23 +4,22 @@
 
 ghost use Rattle.std.specs.Prelude.{◌≡◌, length};
 ghost use Rattle.grammar.specs.Outcome.{answer_of, written_of, display_answer};
-ghost use Rattle.printer.specs.Said.{display_said};
 ghost use Rattle.ahb.specs.Numbers.{verdict_number};
 ghost use Rattle.refusal.specs.Known.{Among};
 ghost use Rattle.ahbprint.specs.Sizes.{Printable};
 
-use printer::Displayed;
+use refusal::Refusal;
 
 // The least accepted answer.
 const ACCEPTED: u64 = 4294967296;
 
-fn print_number(answer: Displayed) -> u64
-    requires { Among Printable (display_said answer) }
-    ensures { result ≡ verdict_number (display_said answer) }
+fn print_number(answer: Result<usize, Refusal>) -> u64
+    requires { Among Printable answer }
+    ensures { result ≡ verdict_number answer }
 {
     match answer {
-        Displayed::Refused(why) => why.number() as u64,
-        Displayed::Done(length) => ACCEPTED + length as u64,
+        Err(why) => u64::from(u8::from(why)),
+        Ok(length) => ACCEPTED + length as u64,
     }
 }
 

@@ -13,46 +13,28 @@ const COMMON: [u8; 13] = [0, 31, 28, 31, 30, 31, 30, 31, 31, 30, 31, 30, 31];
 fn is_leap(year: u16) -> bool
     ensures { result ≡ is_leap year }
 {
-    if year % 4 != 0 {
-        return false;
-    }
-    if year % 100 != 0 {
-        return true;
-    }
-    year % 400 == 0
+    year % 4 == 0 && (year % 100 != 0 || year % 400 == 0)
 }
 
 fn month_days(year: u16, month: u8) -> u8
     ensures { result ≡ month_days year month }
 {
-    if month == 2 {
-        if is_leap(year) {
-            return 29;
-        }
-        return 28;
+    if month == 2 && is_leap(year) {
+        return 29;
     }
-    if month < 13 {
-        return COMMON[month as usize];
-    }
-    0
+    COMMON.get(usize::from(month)).copied().unwrap_or(0)
 }
 
 pub fn is_date(year: u16, month: u8, day: u8) -> bool
     ensures { result ≡ is_date year month day }
 {
-    if day < 1 {
-        return false;
-    }
-    day <= month_days(year, month)
+    1 <= day && day <= month_days(year, month)
 }
 
 pub fn is_time(hour: u8, minute: u8) -> bool
     ensures { result ≡ is_time hour minute }
 {
-    if 23 < hour {
-        return false;
-    }
-    minute <= 59
+    hour <= 23 && minute <= 59
 }
 
 // The days of a year before one of its months, without whole weeks.
@@ -60,10 +42,8 @@ fn before_month(year: u16, month: u8) -> u16
     ensures { result ≡ before_month year month % 7 }
 {
     let mut n: u16 = 0;
-    let mut k: u8 = 0;
-    while k < month {
-        n = (n + month_days(year, k) as u16) % 7;
-        k += 1;
+    for k in 0..month {
+        n = (n + u16::from(month_days(year, k))) % 7;
     }
     n
 }
@@ -82,7 +62,7 @@ fn last_sunday_in_period(year: u16, month: u8) -> u16
 pub fn last_sunday(year: u16, month: u8) -> u32
     ensures { result ≡ last_sunday year month }
 {
-    last_sunday_in_period(year % 400, month) as u32
+    u32::from(last_sunday_in_period(year % 400, month))
 }
 
 // MMDDhhmm as a number.
@@ -97,10 +77,11 @@ fn moment(month: u32, day: u32, hour: u32, minute: u32) -> u32
 pub fn is_mesz(year: u16, month: u8, day: u8, hour: u8, minute: u8) -> bool
     ensures { result ≡ is_mesz year month day hour minute }
 {
-    let at = moment(month as u32, day as u32, hour as u32, minute as u32);
-    let from = moment(3, last_sunday(year, 3), 1, 0);
-    if at < from {
-        return false;
-    }
-    at < moment(10, last_sunday(year, 10), 1, 0)
+    let at = moment(
+        u32::from(month),
+        u32::from(day),
+        u32::from(hour),
+        u32::from(minute),
+    );
+    moment(3, last_sunday(year, 3), 1, 0) <= at && at < moment(10, last_sunday(year, 10), 1, 0)
 }

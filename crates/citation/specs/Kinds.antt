@@ -1,20 +1,14 @@
 -- The kind of a citation (docs/SEMANTICS.md, 'Kinds of citations'). Assumes nothing.
-use Rattle.std.specs.Prelude.{get_or, ◌≡◌, refl, ℕ, List, [], ◌∷◌, map, cond}
-use Rattle.std.proofs.Common.{ap}
+use Rattle.std.specs.Prelude.{get_or, ◌≡◌, refl, ℕ, List, [], ◌∷◌, map, cond, Result, Ok, Option, Some, None}
 use mathlib.Mathlib.Logic.Function.Defs.{Injective, LeftInverse, LeftInverse-Injective}
-use Rattle.refusal.specs.Refusals.{number_back}
-use Rattle.refusal.specs.Result.{Result, ok, refuse, saying, said_injective}
+use Rattle.refusal.specs.declared.Refusal.{Refusal}
 use Rattle.text.specs.Quoted.{ascii}
 use Rattle.text.specs.Bytes.{begins, has}
 use Rattle.text.specs.Digits.{number_up_to}
-use Rattle.text.specs.declared.Found.{Found}
-use Rattle.text.specs.declared.Found.TheVariants.{Number, Nothing}
 use Rattle.utf8.specs.Utf8.{within}
 use Rattle.utf8.specs.Limits.{text_limit, admitted}
 use Rattle.citation.specs.declared.ConditionKind.{ConditionKind}
 use Rattle.citation.specs.declared.ConditionKind.TheVariants.{Voraussetzung, Hinweis, Format, Wiederholbarkeit, Zeitpunkt, Paket, Other}
-use Rattle.citation.specs.declared.KindAnswer.{KindAnswer}
-use Rattle.citation.specs.declared.KindAnswer.TheVariants.{Known, Refused}
 
 -- a kind's number among callers
 abbrev pub kind_number : ConditionKind → ℕ
@@ -64,23 +58,14 @@ abbrev pub largest_number : ℕ
 largest_number = 4294967295
 
 -- the kind of what stands as a number, or of no number
-abbrev pub kind_of_found : Found → ConditionKind
-kind_of_found (Number n) = kind_of_number n
-kind_of_found Nothing = Other
+abbrev pub kind_of_found : Option ℕ → ConditionKind
+kind_of_found (Some n) = kind_of_number n
+kind_of_found None = Other
 
 -- the kind that a text names: `UB` in front first, then a `P`, then the number
 unfoldable pub kind_of : List ℕ → ConditionKind
 kind_of t = cond (begins (ascii "UB") t) Zeitpunkt (cond (has (ascii "P") t) Paket (kind_of_found (number_up_to largest_number t)))
 
 -- the answer on a text
-abbrev pub kind_answer : List ℕ → Result ConditionKind
-kind_answer t = admitted text_limit t (ok (kind_of t))
-
--- what a KindAnswer says
-abbrev pub kind_said : KindAnswer → Result ConditionKind
-kind_said (Known k) = ok k
-kind_said (Refused why) = refuse why
-
--- what is said determines the answer
-pub kind_said_injective : Injective kind_said
-kind_said_injective = said_injective Known Refused kind_said λ a. elim a as (λ k. saying Known Refused (kind_said k) ≡ k) [ Known k ↦ refl | Refused why ↦ ap Refused (number_back why) ]
+abbrev pub kind_answer : List ℕ → Result ConditionKind Refusal
+kind_answer t = admitted text_limit t (Ok (kind_of t))

@@ -5,12 +5,10 @@
 ghost use Rattle.std.specs.Prelude.{◌≡◌};
 ghost use Rattle.text.specs.Digits.{digits_up_to};
 ghost use Rattle.citation.specs.Truths.{truth_number, truth_of};
-ghost use Rattle.citation.specs.Kinds.{kind_number, largest_number, kind_of_number, kind_of, kind_said, kind_answer};
-ghost use Rattle.citation.specs.Pakete.{range_of, bounds_of, paket_of, paket_said, paket_answer};
+ghost use Rattle.citation.specs.Kinds.{kind_number, largest_number, kind_of_number, kind_of, kind_answer};
+ghost use Rattle.citation.specs.Pakete.{range_of, bounds_of, paket_of, paket_answer};
 
 use refusal::Refusal;
-use text::Found;
-use utf8::Admitted;
 
 // The largest number that a citation can name, and the largest bound of a Paket.
 const LARGEST_NUMBER: u64 = 4294967295;
@@ -21,7 +19,7 @@ const LARGEST_BOUND: u64 = 18446744073709551615;
 const SMALL_NUMBER: u64 = 429496728;
 
 // The value of a condition.
-#[derive(Clone, Copy)]
+#[derive(Clone, Copy, Debug, PartialEq, Eq)]
 pub enum Truth {
     False,
     Unknown,
@@ -29,27 +27,29 @@ pub enum Truth {
     Neutral,
 }
 
-impl Truth {
-    pub fn number(self) -> u8
-        ensures { result ≡ truth_number self }
-    {
-        match self {
+impl From<Truth> for u8 {
+    ghost from_gives = { λ truth number. number ≡ truth_number truth };
+
+    fn from(truth: Truth) -> u8 {
+        match truth {
             Truth::False => 0,
             Truth::Unknown => 1,
             Truth::True => 2,
             Truth::Neutral => 3,
         }
     }
+}
 
-    pub fn from_bool(b: bool) -> Truth
-        ensures { result ≡ truth_of b }
-    {
+impl From<bool> for Truth {
+    ghost from_gives = { λ b truth. truth ≡ truth_of b };
+
+    fn from(b: bool) -> Truth {
         if b { Truth::True } else { Truth::False }
     }
 }
 
 // What kind of condition a citation names.
-#[derive(Clone, Copy)]
+#[derive(Clone, Copy, Debug, PartialEq, Eq)]
 pub enum ConditionKind {
     Voraussetzung,
     Hinweis,
@@ -60,51 +60,31 @@ pub enum ConditionKind {
     Other,
 }
 
-// A kind, or why there is none.
-#[derive(Clone, Copy)]
-pub enum KindAnswer {
-    Known(ConditionKind),
-    Refused(Refusal),
-}
-
-fn wide(b: u8) -> u64
-    ensures { result ≡ b }
-{
-    b as u64
-}
-
 // The number that digits write, as `text::digits_up_to` says it, with a test that is cheap while the number is small.
-fn digits_of(text: &[u8]) -> Found
+fn digits_of(text: &[u8]) -> Option<u64>
     ensures { result ≡ digits_up_to largest_number text.now }
 {
-    if text.len() == 0 {
-        return Found::Nothing;
+    if text.is_empty() {
+        return None;
     }
     let mut n: u64 = 0;
-    let mut i = 0;
-    while i < text.len() {
-        let b = text[i];
-        if b < 48 {
-            return Found::Nothing;
-        }
-        if 57 < b {
-            return Found::Nothing;
+    for b in text {
+        if !text::is_digit(*b) {
+            return None;
         }
         if SMALL_NUMBER < n {
             return text::digits_up_to(text, LARGEST_NUMBER);
         }
-        let d = wide(b) - 48;
-        n = n * 10 + d;
-        i += 1;
+        n = n * 10 + u64::from(*b - b'0');
     }
-    Found::Number(n)
+    Some(n)
 }
 
-impl ConditionKind {
-    pub fn number(self) -> u8
-        ensures { result ≡ kind_number self }
-    {
-        match self {
+impl From<ConditionKind> for u8 {
+    ghost from_gives = { λ kind number. number ≡ kind_number kind };
+
+    fn from(kind: ConditionKind) -> u8 {
+        match kind {
             ConditionKind::Voraussetzung => 0,
             ConditionKind::Hinweis => 1,
             ConditionKind::Format => 2,
@@ -114,10 +94,13 @@ impl ConditionKind {
             ConditionKind::Other => 6,
         }
     }
+}
 
-    pub fn of_number(n: u64) -> ConditionKind
-        ensures { result ≡ kind_of_number n }
-    {
+// The kind of a condition with this number.
+impl From<u64> for ConditionKind {
+    ghost from_gives = { λ n kind. kind ≡ kind_of_number n };
+
+    fn from(n: u64) -> ConditionKind {
         match n {
             1..=499 => ConditionKind::Voraussetzung,
             500..=899 => ConditionKind::Hinweis,
@@ -126,8 +109,11 @@ impl ConditionKind {
             _ => ConditionKind::Other,
         }
     }
+}
 
+impl ConditionKind {
     // The kind of a text in any form: `UB` in front first, then a `P`, then the number.
+    #[tactic(auto, unfolding(crate::specs::Kinds::kind_of))]
     fn of_any(text: &[u8]) -> ConditionKind
         ensures { result ≡ kind_of text.now }
     {
@@ -137,10 +123,9 @@ impl ConditionKind {
         if text::find(text, b"P") < text.len() {
             return ConditionKind::Paket;
         }
-        let found = text::number_up_to(text, LARGEST_NUMBER);
-        match found {
-            Found::Number(n) => ConditionKind::of_number(n),
-            Found::Nothing => ConditionKind::Other,
+        match text::number_up_to(text, LARGEST_NUMBER) {
+            Some(n) => ConditionKind::from(n),
+            None => ConditionKind::Other,
         }
     }
 
@@ -148,81 +133,56 @@ impl ConditionKind {
     pub fn of_text(text: &[u8]) -> ConditionKind
         ensures { result ≡ kind_of text.now }
     {
-        let digits = digits_of(text);
-        match digits {
-            Found::Number(n) => ConditionKind::of_number(n),
-            Found::Nothing => ConditionKind::of_any(text),
+        match digits_of(text) {
+            Some(n) => ConditionKind::from(n),
+            None => ConditionKind::of_any(text),
         }
     }
 
-    pub fn of(text: &[u8]) -> KindAnswer
-        ensures { kind_said result ≡ kind_answer text.now }
+    pub fn of(text: &[u8]) -> Result<ConditionKind, Refusal>
+        ensures { result ≡ kind_answer text.now }
     {
-        let admitted = utf8::admit(text, utf8::TEXT_LIMIT);
-        match admitted {
-            Admitted::Refused(why) => KindAnswer::Refused(why),
-            Admitted::Fine => KindAnswer::Known(ConditionKind::of_text(text)),
-        }
+        utf8::admit(text, utf8::TEXT_LIMIT)?;
+        Ok(ConditionKind::of_text(text))
     }
 }
 
-// How often a Paket's code may stand: at least low, and at most high where that is bounded. The Paket's name is the first `name` bytes.
+// How often a Paket's code may stand: at least low, and at most high if there is one. The Paket's name is the first `name` bytes.
 #[derive(Clone, Copy)]
 pub struct Paket {
     pub name: usize,
     pub low: u64,
-    pub bounded: bool,
-    pub high: u64,
-}
-
-// A Paket, or why there is none.
-#[derive(Clone, Copy)]
-pub enum PaketAnswer {
-    Read(Paket),
-    Refused(Refusal),
+    pub high: Option<u64>,
 }
 
 // The bounds after a name of so many bytes, low and high parted by `..`.
-fn range_of(name: usize, r: &[u8]) -> PaketAnswer
-    ensures { paket_said result ≡ range_of name r.now }
+#[tactic(auto, unfolding(crate::specs::Pakete::range_of))]
+fn range_of(name: usize, r: &[u8]) -> Result<Paket, Refusal>
+    ensures { result ≡ range_of name r.now }
 {
     let at = text::find(r, b"..");
     if r.len() <= at {
-        return PaketAnswer::Refused(Refusal::NotAPaket);
+        return Err(Refusal::NotAPaket);
     }
-    let Found::Number(low) = text::number_up_to(text::head(r, at), LARGEST_BOUND) else {
-        return PaketAnswer::Refused(Refusal::NotAPaket);
+    let low = text::number_up_to(text::head(r, at), LARGEST_BOUND).ok_or(Refusal::NotAPaket)?;
+    let last = text::tail(r, at + 2);
+    let high = if text::same_bytes(last, b"n") {
+        None
+    } else {
+        Some(text::number_up_to(last, LARGEST_BOUND).ok_or(Refusal::NotAPaket)?)
     };
-    let h = text::tail(r, at + 2);
-    if text::same_bytes(h, b"n") {
-        return PaketAnswer::Read(Paket {
-            name,
-            low,
-            bounded: false,
-            high: 0,
-        });
-    }
-    let Found::Number(high) = text::number_up_to(h, LARGEST_BOUND) else {
-        return PaketAnswer::Refused(Refusal::NotAPaket);
-    };
-    PaketAnswer::Read(Paket {
-        name,
-        low,
-        bounded: true,
-        high,
-    })
+    Ok(Paket { name, low, high })
 }
 
 // The bounds after a name of so many bytes.
-fn bounds_of(name: usize, r: &[u8]) -> PaketAnswer
-    ensures { paket_said result ≡ bounds_of name r.now }
+fn bounds_of(name: usize, r: &[u8]) -> Result<Paket, Refusal>
+    ensures { result ≡ bounds_of name r.now }
 {
-    if r.len() == 0 {
-        return PaketAnswer::Read(Paket {
+    if r.is_empty() {
+        return Ok(Paket {
             name,
             low: 0,
-            bounded: false,
-            high: 0,
+            high: None,
         });
     }
     range_of(name, r)
@@ -230,29 +190,21 @@ fn bounds_of(name: usize, r: &[u8]) -> PaketAnswer
 
 impl Paket {
     // The Paket that a citation's text names, whatever its bytes.
-    pub fn of_text(text: &[u8]) -> PaketAnswer
-        ensures { paket_said result ≡ paket_of text.now }
+    #[tactic(auto, unfolding(crate::specs::Pakete::paket_of))]
+    pub fn of_text(text: &[u8]) -> Result<Paket, Refusal>
+        ensures { result ≡ paket_of text.now }
     {
         let p = text::find(text, b"P");
-        if text.len() <= p {
-            return PaketAnswer::Refused(Refusal::NotAPaket);
-        }
-        if p == 0 {
-            return PaketAnswer::Refused(Refusal::NotAPaket);
-        }
-        if !text::all_digits(text::head(text, p)) {
-            return PaketAnswer::Refused(Refusal::NotAPaket);
+        if text.len() <= p || p == 0 || !text::all_digits(text::head(text, p)) {
+            return Err(Refusal::NotAPaket);
         }
         bounds_of(p + 1, text::tail(text, p + 1))
     }
 
-    pub fn parse(text: &[u8]) -> PaketAnswer
-        ensures { paket_said result ≡ paket_answer text.now }
+    pub fn parse(text: &[u8]) -> Result<Paket, Refusal>
+        ensures { result ≡ paket_answer text.now }
     {
-        let admitted = utf8::admit(text, utf8::TEXT_LIMIT);
-        match admitted {
-            Admitted::Refused(why) => PaketAnswer::Refused(why),
-            Admitted::Fine => Paket::of_text(text),
-        }
+        utf8::admit(text, utf8::TEXT_LIMIT)?;
+        Paket::of_text(text)
     }
 }

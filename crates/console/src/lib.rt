@@ -2,40 +2,25 @@
 
 #![tactic(auto)]
 
-ghost use Rattle.std.specs.Prelude.{◌≤◌, length};
+ghost use Rattle.std.specs.Prelude.{◌≤◌, length, take};
+ghost use Rattle.std.specs.Io.KnownBytes.{Consumes};
 
-use std::io::{Read, Stdin, Stdout, Write};
+use std::io::{Read, Write};
 
 // Puts bytes that have come at the front of the buffer, and returns how many: none at the end of the input.
-pub fn read_some(input: Stdin, buf: &mut [u8]) -> usize
-    ensures { result ≤ length buf.new }
+pub fn read_some<R: Read>(input: &mut R, buf: &mut [u8]) -> usize
+    ensures within { result ≤ length buf.new }
+    ensures bytes { Consumes (R.remaining input.old) (R.remaining input.new) (take result buf.new) }
 {
-    let mut source = input;
-    match source.read(buf) {
-        Ok(n) => n,
-        Err(_) => 0,
-    }
+    input.read(buf).unwrap_or(0)
 }
 
-// Writes all of the bytes.
-pub fn write_all(out: Stdout, bytes: &[u8]) {
-    let mut sink = out;
-    match sink.write_all(bytes) {
-        Ok(()) => {}
-        Err(_) => {}
-    }
+// Writes all of the bytes. No clause says which were written: std says nothing of a write that fails.
+pub fn write_all<W: Write>(out: &mut W, bytes: &[u8]) {
+    let _ = out.write_all(bytes);
 }
 
 // Writes a number in decimal.
-pub fn print_decimal(out: Stdout, n: u64) {
-    let mut digits = [0u8; 20];
-    let k = io::decimal(n, &mut digits);
-    write_all(out, &digits[..k]);
-}
-
-// Writes a number in lower-case hex, with zeros in front up to a width.
-pub fn print_hex(out: Stdout, n: u64, width: usize) {
-    let mut digits = [0u8; 16];
-    let k = io::hex(n, width, &mut digits);
-    write_all(out, &digits[..k]);
+pub fn print_decimal<W: Write>(out: &mut W, n: u64) {
+    let _ = write!(out, "{n}");
 }

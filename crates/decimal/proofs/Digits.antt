@@ -49,10 +49,10 @@ integer_le (d ∷ w) = go (is_zero d) (integer_le w)
     go true h = omega arith
     go false h = omega arith
 
--- at most k digits of a integer part count: those before the last k are zeros
-pub integer_zeros : (w : List ℕ) (k : ℕ) → k ≤ length w → leb (integer_digits w) k ≡ all is_zero (take (length w - k) w)
-integer_zeros [] k h = rw (zero-sub k) (leb-zero k)
-integer_zeros (d ∷ w) k h = elim (dec_lt (length w) k) [ yes l ↦ full l | no l ↦ part (omega arith) (integer_zeros w k (omega arith)) ]
+-- at most k digits of an integer part count: those before the last k are zeros
+pub integer_zeros : (w : List ℕ) (k : ℕ) → leb (integer_digits w) k ≡ all is_zero (take (length w - k) w)
+integer_zeros [] k = rw (zero-sub k) (leb-zero k)
+integer_zeros (d ∷ w) k = elim (dec_lt (length w) k) [ yes l ↦ full l | no l ↦ part (omega arith) (integer_zeros w k) ]
   where
     full : length w < k → leb (integer_digits (d ∷ w)) k ≡ all is_zero (take (suc (length w) - k) (d ∷ w))
     full l =

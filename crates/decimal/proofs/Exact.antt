@@ -18,19 +18,20 @@ use Rattle.laws.specs.Tests.{and_both}
 use Rattle.text.specs.Bytes.{all}
 use Rattle.text.specs.Digits.{is_digit, all_digits, nat_from, nat_of}
 use Rattle.text.proofs.Numbers.{digit_range, nat_append, nat_shift, nat_lt, not_front, place_none}
-use Rattle.decimal.specs.declared.Order.TheVariants.{Less, Equal, Greater, NoNumber}
+use Rattle.std.specs.Prelude.{Some, None}
+use Rattle.std.specs.declared.cmp.Ordering.TheVariants.{Less, Equal, Greater}
+use Rattle.std.specs.Ordering.{ordering_reverse}
 use Rattle.decimal.specs.Decimal.{is_negative, is_zero, is_number, integer_of, fraction_of, signed, exact_of, orderℕ, order_of, Exact, against, integer_digits, fraction_digits, integer_at_most, fraction_at_most}
-use Rattle.decimal.specs.Signs.{flip}
 use Rattle.decimal.proofs.Orders.{nat_zeros, nat_some, order_lt, flip_order, number_digits}
 use Rattle.decimal.proofs.Digits.{fraction_zeros, fraction_le}
 
 -- the comparison is the order of exact values
-pub compared : (s : List ℕ) (below : Bool) (size : ℕ) → is_number s ≡ true → against s below size ≡ order_of (exact_of s) (signed below size 0)
+pub compared : (s : List ℕ) (below : Bool) (size : ℕ) → is_number s ≡ true → against s below size ≡ Some (order_of (exact_of s) (signed below size 0))
 unfolding against
 compared s below size h = rw h
 
 -- what is no number stands in no order
-pub not_compared : (s : List ℕ) (below : Bool) (size : ℕ) → is_number s ≡ false → against s below size ≡ NoNumber
+pub not_compared : (s : List ℕ) (below : Bool) (size : ℕ) → is_number s ≡ false → against s below size ≡ None
 unfolding against
 not_compared s below size h = rw h
 
@@ -39,7 +40,7 @@ pub zero-signed : (k : ℕ) → signed true 0 k ≡ signed false 0 k
 zero-signed k = refl
 
 -- the order is one: turned round, and transitive
-pub turned : (x y : Exact) → order_of y x ≡ flip (order_of x y)
+pub turned : (x y : Exact) → order_of y x ≡ ordering_reverse (order_of x y)
 turned x y = flip_order (x.plus * 10 ^ y.places + y.minus * 10 ^ x.places) (y.plus * 10 ^ x.places + x.minus * 10 ^ y.places)
 
 is_less_lem : (a b : ℕ) → orderℕ a b ≡ Less → a < b

@@ -1,5 +1,5 @@
 -- The order of sizes by their digits, and that of signed numbers by their sizes. Assumes nothing.
-use Prim.Native.Nat.{ℕ, ◌+◌, ◌-◌, ◌*◌, ◌^◌, ◌≤◌, ◌<◌}
+use Prim.Native.Nat.{ℕ, ◌+◌, ◌-◌, ◌*◌, ◌^◌, ◌≤◌, ◌<◌, min}
 use mathlib.Core.Path.{◌≡◌, refl, sym, ap, ap₂, ◌∙◌}
 use mathlib.Core.Logic.{◌⊎◌, inl, inr, ⊎_elim}
 use mathlib.Core.Bool.{Bool, true, false, cond, ◌&&◌}
@@ -14,9 +14,11 @@ use Rattle.laws.specs.Tests.{and_both}
 use Rattle.text.specs.Bytes.{all}
 use Rattle.text.specs.Digits.{is_digit, all_digits, nat_from, nat_of}
 use Rattle.text.proofs.Numbers.{digit_range, nat_append, nat_ge, nat_shift, nat_lt}
-use Rattle.decimal.specs.declared.Order.TheVariants.{Less, Equal, Greater}
+use Rattle.std.specs.declared.cmp.Ordering.TheVariants.{Less, Equal, Greater}
+use Rattle.std.specs.Ordering.{nat_cmp, ordering_reverse}
+use Rattle.std.specs.Cmp.{nat_cmp_is}
 use Rattle.decimal.specs.Decimal.{is_zero, orderℕ, order_of, signed, is_number, integer_of, fraction_of}
-use Rattle.decimal.specs.Signs.{by_sign, flip, apart}
+use Rattle.decimal.specs.Signs.{by_sign, apart}
 
 -- digits are 0 just where each of them is
 pub nat_zeros : (s : List ℕ) → all_digits s ≡ true → all is_zero s ≡ true → nat_of s ≡ 0
@@ -55,6 +57,9 @@ order_gt a b h = simp (le-ltb a b (omega arith), lt-ltb b a h)
 pub order_eq : (a b : ℕ) → a ≡ b → orderℕ a b ≡ Equal
 order_eq a b h = simp (le-ltb a b (omega arith), le-ltb b a (omega arith))
 
+pub tri : (a b : ℕ) → (a < b) ⊎ ((a ≡ b) ⊎ (b < a))
+tri a b = elim (dec_lt a b) [ yes h ↦ inl h | no h ↦ elim (dec_lt b a) [ yes k ↦ inr (inr k) | no k ↦ inr (inl (omega arith)) ] ]
+
 module _ (w f : List ℕ) (n : ℕ) (hf : all_digits f ≡ true) where
   abbrev p : ℕ
   p = 10 ^ length f
@@ -81,12 +86,16 @@ module _ (w f : List ℕ) (n : ℕ) (hf : all_digits f ≡ true) where
       let e : nat_of w * p ≡ n * p = ap (λ (k : ℕ). k * p) h in
       order_gt (nat_of (w ++ f)) (n * p) (omega (arith, joined, nat_some f hf z))
 
+  -- an integer part that is cut at a number above n decides where it differs from n
+  pub size_differs : (cap m : ℕ) → m ≡ min (nat_of w) cap → n < cap → (nat_cmp m n ≡ Equal → ⊥) → nat_cmp m n ≡ orderℕ (nat_of (w ++ f)) (n * 10 ^ length f)
+  size_differs cap m e l h =
+      ⊎_elim (λ g. sym (nat_cmp_is m n Less g) ∙ sym (size_lt (omega arith)))
+      (⊎_elim (λ g. absurd (h (sym (nat_cmp_is m n Equal g)))) (λ g. sym (nat_cmp_is m n Greater g) ∙ sym (size_gt (omega arith))))
+      (tri m n)
+
 -- The order of signed values, by the order of sizes.
 
-pub tri : (a b : ℕ) → (a < b) ⊎ ((a ≡ b) ⊎ (b < a))
-tri a b = elim (dec_lt a b) [ yes h ↦ inl h | no h ↦ elim (dec_lt b a) [ yes k ↦ inr (inr k) | no k ↦ inr (inl (omega arith)) ] ]
-
-pub flip_order : (a b : ℕ) → orderℕ b a ≡ flip (orderℕ a b)
+pub flip_order : (a b : ℕ) → orderℕ b a ≡ ordering_reverse (orderℕ a b)
 flip_order a b = ⊎_elim (λ h. rw (order_lt a b h) (order_gt b a h)) (⊎_elim (λ h. rw (order_eq a b h) (order_eq b a (sym h))) (λ h. rw (order_gt a b h) (order_lt b a h))) (tri a b)
 
 module _ (N n k : ℕ) where

@@ -1,10 +1,10 @@
 -- Numbers written as text, their exact values and the digits that count (docs/SEMANTICS.md, 'Format conditions'). Assumes nothing.
-use Rattle.std.specs.Prelude.{ℕ, suc, ◌+◌, ◌*◌, ◌^◌, List, [], ◌∷◌, ◌++◌, Bool, true, false, cond, ◌&&◌, length, take, drop, ltb, leb, eqb}
+use Rattle.std.specs.Prelude.{ℕ, suc, ◌+◌, ◌*◌, ◌^◌, List, [], ◌∷◌, ◌++◌, Bool, true, false, cond, ◌&&◌, length, take, drop, ltb, leb, eqb, Option, Some, None}
+use Rattle.std.specs.declared.cmp.Ordering.{Ordering}
+use Rattle.std.specs.declared.cmp.Ordering.TheVariants.{Less, Equal, Greater}
 use Rattle.text.specs.Quoted.{ascii}
 use Rattle.text.specs.Bytes.{all, begins, place}
 use Rattle.text.specs.Digits.{all_digits, nat_of, plus_width}
-use Rattle.decimal.specs.declared.Order.{Order}
-use Rattle.decimal.specs.declared.Order.TheVariants.{Less, Equal, Greater, NoNumber}
 
 -- a `-` stands first
 abbrev pub is_negative : List ℕ → Bool
@@ -46,16 +46,16 @@ abbrev pub exact_of : List ℕ → Exact
 exact_of s = signed (is_negative s) (nat_of (integer_of s ++ fraction_of s)) (length (fraction_of s))
 
 -- the order of natural numbers
-abbrev pub orderℕ : ℕ → ℕ → Order
+abbrev pub orderℕ : ℕ → ℕ → Ordering
 orderℕ a b = cond (ltb a b) Less (cond (ltb b a) Greater Equal)
 
 -- the order of exact values: both sides times both powers of ten, and what is taken away moved over
-abbrev pub order_of : Exact → Exact → Order
+abbrev pub order_of : Exact → Exact → Ordering
 order_of x y = orderℕ (x.plus * 10 ^ y.places + y.minus * 10 ^ x.places) (y.plus * 10 ^ x.places + x.minus * 10 ^ y.places)
 
--- a text against the integer of this size, below zero or not
-unfoldable pub against : List ℕ → Bool → ℕ → Order
-against s below size = cond (is_number s) (order_of (exact_of s) (signed below size 0)) NoNumber
+-- a text against the integer of this size, below zero or not; None of what is no number
+unfoldable pub against : List ℕ → Bool → ℕ → Option Ordering
+against s below size = cond (is_number s) (Some (order_of (exact_of s) (signed below size 0))) None
 
 -- the digit 0
 abbrev pub is_zero : ℕ → Bool

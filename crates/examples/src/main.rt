@@ -6,314 +6,214 @@
 
 #![tactic(auto)]
 
-ghost use Rattle.std.specs.Prelude.{◌≤◌, length};
+ghost use Rattle.std.specs.Prelude.{◌≤◌};
 
-use citation::{ConditionKind, KindAnswer, Paket, PaketAnswer, Truth};
-use formats::{FormatVerdict, RegisteredAnswer, VerdictAnswer};
+use citation::{ConditionKind, Paket, Truth};
 use refusal::Refusal;
-use status::{StatusKind, WordAnswer};
-use std::io::Stdout;
+use status::StatusKind;
+use std::io::Write;
 
-fn say(out: Stdout, s: &[u8]) {
-    console::write_all(out, s);
+// A write that fails is passed over, here and below.
+fn say<W: Write>(out: &mut W, text: &str) {
+    console::write_all(out, text.as_bytes());
 }
 
-fn say_number(out: Stdout, n: u64) {
-    console::print_decimal(out, n);
-}
-
-fn say_byte(out: Stdout, b: u8) {
-    if 32 < b {
-        if b < 127 {
-            say(out, &[b]);
-            return;
-        }
-    }
-    say(out, b"\\x");
-    console::print_hex(out, b as u64, 2);
-}
-
-fn say_bytes(out: Stdout, s: &[u8]) {
-    let mut i = 0;
-    while i < s.len() {
-        say_byte(out, s[i]);
-        i += 1;
+fn say_byte<W: Write>(out: &mut W, b: u8) {
+    if b.is_ascii_graphic() {
+        console::write_all(out, &[b]);
+    } else {
+        let _ = write!(out, "\\x{b:02x}");
     }
 }
 
 // The text with a space before it.
-fn say_text(out: Stdout, s: &[u8]) {
-    say(out, b" ");
+fn say_text<W: Write>(out: &mut W, s: &[u8]) {
+    say(out, " ");
     let n = s.len();
-    if n == 0 {
-        say(out, b"\"\"");
-        return;
-    }
-    if n < 100 {
-        say_bytes(out, s);
-        return;
-    }
-    say_byte(out, s[0]);
-    say(out, b" ");
-    say_number(out, n as u64);
-    say(out, b" times");
-}
-
-fn say_refusal(out: Stdout, why: Refusal) {
-    say(out, b" refused ");
-    say_number(out, why.number() as u64);
-    say(out, b"\n");
-}
-
-fn say_bool(out: Stdout, is: bool) {
-    if is {
-        say(out, b" yes\n")
-    } else {
-        say(out, b" no\n")
+    match s {
+        [] => say(out, "\"\""),
+        [first, ..] if n >= 100 => {
+            say_byte(out, *first);
+            let _ = write!(out, " {n} times");
+        }
+        _ => {
+            for b in s {
+                say_byte(out, *b);
+            }
+        }
     }
 }
 
-fn say_verdict(out: Stdout, v: FormatVerdict) {
-    match v {
-        FormatVerdict::Holds => say(out, b" Holds\n"),
-        FormatVerdict::Violated => say(out, b" Violated\n"),
-        FormatVerdict::Unregistered => say(out, b" Unregistered\n"),
-    }
+fn say_refusal<W: Write>(out: &mut W, why: Refusal) {
+    let code = u8::from(why);
+    let _ = writeln!(out, " refused {code}");
 }
 
-fn evaluate(out: Stdout, text: &[u8], value: &[u8]) {
-    say(out, b"evaluate");
+fn yes_or_no(is: bool) -> &'static str {
+    if is { "yes" } else { "no" }
+}
+
+fn evaluate<W: Write>(out: &mut W, text: &[u8], value: &[u8]) {
+    say(out, "evaluate");
     say_text(out, text);
     say_text(out, value);
     match formats::evaluate(text, value) {
-        VerdictAnswer::Refused(why) => say_refusal(out, why),
-        VerdictAnswer::Verdict(v) => say_verdict(out, v),
+        Err(why) => say_refusal(out, why),
+        Ok(verdict) => {
+            let _ = writeln!(out, " {verdict:?}");
+        }
     }
 }
 
-fn registered(out: Stdout, text: &[u8]) {
-    say(out, b"registered");
+fn registered<W: Write>(out: &mut W, text: &[u8]) {
+    say(out, "registered");
     say_text(out, text);
     match formats::is_registered(text) {
-        RegisteredAnswer::Refused(why) => say_refusal(out, why),
-        RegisteredAnswer::Known(is) => say_bool(out, is),
+        Err(why) => say_refusal(out, why),
+        Ok(is) => {
+            let answer = yes_or_no(is);
+            let _ = writeln!(out, " {answer}");
+        }
     }
 }
 
-fn say_kind(out: Stdout, k: ConditionKind) {
-    match k {
-        ConditionKind::Voraussetzung => say(out, b" Voraussetzung\n"),
-        ConditionKind::Hinweis => say(out, b" Hinweis\n"),
-        ConditionKind::Format => say(out, b" Format\n"),
-        ConditionKind::Wiederholbarkeit => say(out, b" Wiederholbarkeit\n"),
-        ConditionKind::Zeitpunkt => say(out, b" Zeitpunkt\n"),
-        ConditionKind::Paket => say(out, b" Paket\n"),
-        ConditionKind::Other => say(out, b" Other\n"),
-    }
-}
-
-fn kind(out: Stdout, text: &[u8]) {
-    say(out, b"kind");
+fn kind<W: Write>(out: &mut W, text: &[u8]) {
+    say(out, "kind");
     say_text(out, text);
     match ConditionKind::of(text) {
-        KindAnswer::Refused(why) => say_refusal(out, why),
-        KindAnswer::Known(k) => say_kind(out, k),
+        Err(why) => say_refusal(out, why),
+        Ok(kind) => {
+            let _ = writeln!(out, " {kind:?}");
+        }
     }
 }
 
-fn say_name(out: Stdout, text: &[u8], name: usize) {
-    say(out, b" name");
-    if name <= text.len() {
-        say_text(out, text::head(text, name));
-    }
+fn say_bounds<W: Write>(out: &mut W, low: u64, high: Option<u64>) {
+    let _ = write!(out, " low {low} high ");
+    let _ = match high {
+        Some(high) => writeln!(out, "{high}"),
+        None => writeln!(out, "n"),
+    };
 }
 
-fn say_bounds(out: Stdout, p: Paket) {
-    say(out, b" low ");
-    say_number(out, p.low);
-    say(out, b" high ");
-    if p.bounded {
-        say_number(out, p.high);
-        say(out, b"\n");
-    } else {
-        say(out, b"n\n");
-    }
-}
-
-fn say_paket(out: Stdout, text: &[u8], p: Paket) {
-    say_name(out, text, p.name);
-    say_bounds(out, p);
-}
-
-fn paket(out: Stdout, text: &[u8]) {
-    say(out, b"paket");
+fn paket<W: Write>(out: &mut W, text: &[u8]) {
+    say(out, "paket");
     say_text(out, text);
     match Paket::parse(text) {
-        PaketAnswer::Refused(why) => say_refusal(out, why),
-        PaketAnswer::Read(p) => say_paket(out, text, p),
+        Err(why) => say_refusal(out, why),
+        Ok(p) => {
+            say(out, " name");
+            say_text(out, text::head(text, p.name));
+            say_bounds(out, p.low, p.high);
+        }
     }
 }
 
-fn say_word(out: Stdout, kind: StatusKind) {
+fn say_status<W: Write>(out: &mut W, kind: StatusKind) {
+    let code = u8::from(kind);
     let word = kind.as_str();
-    let bytes = word.bytes;
-    let len = word.len;
-    say(out, &bytes[..len]);
-}
-
-fn say_status(out: Stdout, kind: StatusKind) {
-    say(out, b" code ");
-    say_number(out, kind.code() as u64);
-    say(out, b" word ");
-    say_word(out, kind);
-    if kind.is_receiver_checkable() {
-        say(out, b" checkable\n");
+    let checkable = if kind.is_receiver_checkable() {
+        "checkable"
     } else {
-        say(out, b" not checkable\n");
-    }
+        "not checkable"
+    };
+    let _ = writeln!(out, " code {code} word {word} {checkable}");
 }
 
-fn status(out: Stdout, word: &[u8]) {
-    say(out, b"status");
+fn status<W: Write>(out: &mut W, word: &[u8]) {
+    say(out, "status");
     say_text(out, word);
     match StatusKind::from_word(word) {
-        WordAnswer::Is(kind) => say_status(out, kind),
-        WordAnswer::NoWord => say(out, b" none\n"),
+        Ok(kind) => say_status(out, kind),
+        Err(_) => say(out, " none\n"),
     }
 }
 
-fn say_count(out: Stdout, n: usize) {
-    say(out, b" ");
-    say_number(out, n as u64);
-    say(out, b"\n");
-}
-
-fn encoding(out: Stdout, s: &[u8]) {
-    say(out, b"utf8");
+fn encoding<W: Write>(out: &mut W, s: &[u8]) {
+    say(out, "utf8");
     say_text(out, s);
     if utf8::is_utf8(s) {
-        say_count(out, utf8::count(s));
+        let n = utf8::count(s);
+        let _ = writeln!(out, " {n}");
     } else {
-        say(out, b" no\n");
+        say(out, " no\n");
     }
 }
 
-fn white(out: Stdout, code: u32) {
-    say(out, b"white ");
-    console::print_hex(out, code as u64, 4);
-    say_bool(out, utf8::is_white(code));
+fn white<W: Write>(out: &mut W, code: u32) {
+    let answer = yes_or_no(utf8::is_white(code));
+    let _ = writeln!(out, "white {code:04x} {answer}");
 }
 
-fn white_between(out: Stdout, low: u32, high: u32) {
-    for code in low..=high {
-        white(out, code);
-    }
+fn truth<W: Write>(out: &mut W, is: bool) {
+    let code = u8::from(Truth::from(is));
+    let _ = writeln!(out, "truth {code}");
 }
 
-fn truth(out: Stdout, is: bool) {
-    say(out, b"truth");
-    say_count(out, Truth::from_bool(is).number() as usize);
-}
-
-// What a word is put to.
-#[derive(Clone, Copy)]
-enum Ask {
-    Value,
-    Condition,
-    Registered,
-    Kind,
-    Paket,
-    Status,
-    Utf8,
-}
-
-fn asked(out: Stdout, what: Ask, given: &[u8], word: &[u8]) {
-    match what {
-        Ask::Value => evaluate(out, given, word),
-        Ask::Condition => evaluate(out, word, given),
-        Ask::Registered => registered(out, word),
-        Ask::Kind => kind(out, word),
-        Ask::Paket => paket(out, word),
-        Ask::Status => status(out, word),
-        Ask::Utf8 => encoding(out, word),
-    }
-}
-
-// How many bytes stand before the separator.
-fn width_of(s: &[u8], separator: &[u8]) -> usize
-    ensures { result ≤ length s.now }
+// Asks for each of the words, with one separator between two.
+fn each<W: Write, F: Fn(&mut W, &[u8])>(out: &mut W, ask: F, words: &[u8], separator: u8)
+    requires { F.IsAlwaysCallable ask }
 {
-    text::find(s, separator)
-}
-
-// The words from a place on, with one separator between two.
-fn each(out: Stdout, what: Ask, given: &[u8], words: &[u8], from: usize, separator: &[u8]) {
-    let mut at = from;
-    while at < words.len() {
-        let rest = text::tail(words, at);
-        let width = width_of(rest, separator);
-        asked(out, what, given, text::head(rest, width));
-        at = at + width + 1;
+    for word in words.split(|b| *b == separator) {
+        ask(out, word);
     }
 }
 
-fn list(out: Stdout, what: Ask, words: &[u8]) {
-    each(out, what, b"", words, 0, b" ");
+fn list<W: Write, F: Fn(&mut W, &[u8])>(out: &mut W, ask: F, words: &[u8])
+    requires { F.IsAlwaysCallable ask }
+{
+    each(out, ask, words, b' ');
 }
 
 // Words that may have spaces.
-fn lines(out: Stdout, what: Ask, words: &[u8]) {
-    each(out, what, b"", words, 0, b"\n");
+fn lines<W: Write, F: Fn(&mut W, &[u8])>(out: &mut W, ask: F, words: &[u8])
+    requires { F.IsAlwaysCallable ask }
+{
+    each(out, ask, words, b'\n');
 }
 
 // One value for many conditions.
-fn conditions(out: Stdout, value: &[u8], words: &[u8]) {
-    each(out, Ask::Condition, value, words, 0, b" ");
+fn conditions<W: Write>(out: &mut W, value: &[u8], words: &[u8]) {
+    each(out, |to, word| evaluate(to, word, value), words, b' ');
 }
 
 // A condition and its values, with one separator between two.
-fn row(out: Stdout, words: &[u8], separator: &[u8]) {
-    let width = width_of(words, separator);
-    each(
-        out,
-        Ask::Value,
-        text::head(words, width),
-        words,
-        width + 1,
-        separator,
-    );
-}
-
-// Such rows, with a line feed between two.
-fn rows(out: Stdout, words: &[u8], separator: &[u8]) {
-    let mut at = 0;
-    while at < words.len() {
-        let rest = text::tail(words, at);
-        let width = width_of(rest, b"\n");
-        row(out, text::head(rest, width), separator);
-        at = at + width + 1;
+fn row<W: Write>(out: &mut W, words: &[u8], separator: u8) {
+    let mut parts = words.split(|b| *b == separator);
+    if let Some(condition) = parts.next() {
+        for value in parts {
+            evaluate(out, condition, value);
+        }
     }
 }
 
-fn values(out: Stdout, words: &[u8]) {
-    rows(out, words, b" ");
+// Such rows, with a line feed between two.
+fn rows<W: Write>(out: &mut W, words: &[u8], separator: u8) {
+    for words in words.split(|b| *b == b'\n') {
+        row(out, words, separator);
+    }
 }
 
-fn values_with_spaces(out: Stdout, words: &[u8]) {
-    rows(out, words, b"|");
+fn values<W: Write>(out: &mut W, words: &[u8]) {
+    rows(out, words, b' ');
+}
+
+fn values_with_spaces<W: Write>(out: &mut W, words: &[u8]) {
+    rows(out, words, b'|');
 }
 
 // A byte so many times, and once more.
-fn around(out: Stdout, what: Ask, given: &[u8], b: u8, n: usize)
-    requires { n ≤ 4400 }
+fn around<W: Write, F: Fn(&mut W, &[u8])>(out: &mut W, ask: F, b: u8, n: usize)
+    requires limit { n ≤ 4400 }
+    requires ask { F.IsAlwaysCallable ask }
 {
     let word = [b; 4401];
-    asked(out, what, given, text::head(&word, n));
-    asked(out, what, given, text::head(&word, n + 1));
+    ask(out, text::head(&word, n));
+    ask(out, text::head(&word, n + 1));
 }
 
 // Numbers with a lower bound.
-fn bounds_below(out: Stdout) {
+fn bounds_below<W: Write>(out: &mut W) {
     values(
         out,
         b"902 0 -0 -0.00 +0 0.001 5. .5 1000000000000000000000000000000\n\
@@ -328,7 +228,7 @@ fn bounds_below(out: Stdout) {
 }
 
 // Numbers with an upper bound.
-fn bounds_above(out: Stdout) {
+fn bounds_above<W: Write>(out: &mut W) {
     values(
         out,
         b"955 99.999 99 0 -100 -1000 99.99999999999999999999999\n\
@@ -345,7 +245,7 @@ fn bounds_above(out: Stdout) {
 }
 
 // Numbers that are one number, or any other.
-fn exact(out: Stdout) {
+fn exact<W: Write>(out: &mut W) {
     values(
         out,
         b"903 1 +1 01 1. 1.000\n\
@@ -362,7 +262,7 @@ fn exact(out: Stdout) {
 }
 
 // Numbers, and whole ones in a range.
-fn numbers(out: Stdout) {
+fn numbers<W: Write>(out: &mut W) {
     values(
         out,
         b"910 0 -0 +0 5 -5 +5 5. .5 -.5 +5.25 007 0.000 999999999999999999999999999999\n\
@@ -373,7 +273,7 @@ fn numbers(out: Stdout) {
 }
 
 // At most so many digits after the point.
-fn fractions(out: Stdout) {
+fn fractions<W: Write>(out: &mut W) {
     values(
         out,
         b"937 5 5.0 5. 5.000 -7 0 .0\n\
@@ -394,7 +294,7 @@ fn fractions(out: Stdout) {
 }
 
 // At most so many digits before the point.
-fn integers(out: Stdout) {
+fn integers<W: Write>(out: &mut W) {
     values(
         out,
         b"917 1234 01234 -1234 +1234 1234.56789 0 .5 00009999.999\n\
@@ -405,7 +305,7 @@ fn integers(out: Stdout) {
 }
 
 // Groups of digits.
-fn groups(out: Stdout) {
+fn groups<W: Write>(out: &mut W) {
     values(
         out,
         b"942 1-01-1-001 0-00-0-000 9-99-9-999\n\
@@ -428,7 +328,7 @@ fn groups(out: Stdout) {
 }
 
 // Lengths in characters.
-fn lengths(out: Stdout) {
+fn lengths<W: Write>(out: &mut W) {
     values(
         out,
         b"904 1234567890123456\n\
@@ -448,7 +348,7 @@ fn lengths(out: Stdout) {
 }
 
 // Latin-1 without lower-case letters.
-fn upper_case(out: Stdout) {
+fn upper_case<W: Write>(out: &mut W) {
     values(
         out,
         b"918 ABC 0123 @[`{~ \xC3\x84\xC3\x96\xC3\x9C ! \xC2\xA1 \xC2\xA9 \xC2\xAB \xC2\xB4\n\
@@ -460,7 +360,7 @@ fn upper_case(out: Stdout) {
 }
 
 // Other shapes.
-fn shapes(out: Stdout) {
+fn shapes<W: Write>(out: &mut W) {
     values(
         out,
         b"931 +00 x+00 202603282300+00 +00+00\n\
@@ -477,7 +377,7 @@ fn shapes(out: Stdout) {
 }
 
 // Times of 15 bytes.
-fn fields(out: Stdout) {
+fn fields<W: Write>(out: &mut W) {
     values(
         out,
         b"932 202607012200+00 202607012200xyz 000000002200+00 202613992200-99\n\
@@ -503,7 +403,7 @@ fn fields(out: Stdout) {
 }
 
 // UB1: midnight in Germany.
-fn midnight(out: Stdout) {
+fn midnight<W: Write>(out: &mut W) {
     values(
         out,
         b"UB1 202603282300+00 202603292200+00 202610242200+00 202610252300+00 202607012200+00\n\
@@ -518,7 +418,7 @@ fn midnight(out: Stdout) {
 }
 
 // UB2: the start of the gas day.
-fn gas_day(out: Stdout) {
+fn gas_day<W: Write>(out: &mut W) {
     values(
         out,
         b"UB2 202603290400+00 202603280500+00 202610240400+00 202610250500+00 202607010400+00\n\
@@ -529,7 +429,7 @@ fn gas_day(out: Stdout) {
 }
 
 // UB3: one or the other.
-fn either_day(out: Stdout) {
+fn either_day<W: Write>(out: &mut W) {
     values(
         out,
         b"UB3 202603282300+00 202603292200+00 202603290400+00 202603280500+00 202610250500+00\n\
@@ -540,7 +440,7 @@ fn either_day(out: Stdout) {
 }
 
 // Years with a sign, and leap years.
-fn years(out: Stdout) {
+fn years<W: Write>(out: &mut W) {
     values(
         out,
         b"UB1 -00002292300+00 +99907012200+00 202607012200\xC3\xA4+00\n\
@@ -555,7 +455,7 @@ fn years(out: Stdout) {
 }
 
 // Dates and fields that are none.
-fn dates(out: Stdout) {
+fn dates<W: Write>(out: &mut W) {
     values(
         out,
         b"UB1 +026+7+12200+00 202607+12200+00 2026+7012200+00 202607012200xyz+00 20260701220000+00\n\
@@ -573,7 +473,7 @@ fn dates(out: Stdout) {
 }
 
 // Conditions without an evaluator here.
-fn unregistered(out: Stdout) {
+fn unregistered<W: Write>(out: &mut W) {
     conditions(
         out,
         b"0",
@@ -588,7 +488,7 @@ fn unregistered(out: Stdout) {
 }
 
 // The empty value.
-fn empty_values(out: Stdout) {
+fn empty_values<W: Write>(out: &mut W) {
     conditions(
         out,
         b"",
@@ -599,10 +499,10 @@ fn empty_values(out: Stdout) {
 }
 
 // Whether a condition has an evaluator.
-fn registered_texts(out: Stdout) {
+fn registered_texts<W: Write>(out: &mut W) {
     list(
         out,
-        Ask::Registered,
+        registered,
         b"902 903 904 905 906 907 908 909 910 912 913 914 915 917 918 925 926 927 929 930 931 932 \
           933 934 935 937 938 939 940 942 943 946 947 948 949 955 957 959 962 963 964 965 968 969 \
           UB1 UB2 UB3 922 950 951 953 960 961 0902 UB4 UB UBx ub1 900 901 999 1 +902 1P",
@@ -610,10 +510,10 @@ fn registered_texts(out: Stdout) {
 }
 
 // The kinds of citations.
-fn kinds(out: Stdout) {
+fn kinds<W: Write>(out: &mut W) {
     list(
         out,
-        Ask::Kind,
+        kind,
         b"1 5 +5 005 +005 499 +499 00000000000000000000000000499 500 899 0500 +899 900 901 999 \
           0902 +902 2000 2499 002000 UB1 UB3 UB4 UB UBx UBP UB5 UB1P0..1 1P 1P0..1 XP1 P 5P PUB1 \
           2000P 1Px P1 +5P 0 000 +0 1000 1999 2500 4294967295 4294967296 4294967297 4294967301 \
@@ -623,10 +523,10 @@ fn kinds(out: Stdout) {
 }
 
 // The bounds of Paket citations.
-fn pakete(out: Stdout) {
+fn pakete<W: Write>(out: &mut W) {
     list(
         out,
-        Ask::Paket,
+        paket,
         b"1P 01P 12345678901234567890123P 1P0..1 10P1..1 2P0..n 3P5..2 1P+1..+2 1P+7..n 1P000..001 \
           0P0..0 1P1..2 1P18446744073709551615..18446744073709551615 1P0..018446744073709551615 \
           1P18446744073709551615..n XP1..2 P1..2 P 1P1.2 1P1 1P. 1P.. 1P1.. 1P..1 1P..n 1P1...2 \
@@ -637,36 +537,47 @@ fn pakete(out: Stdout) {
 }
 
 // Status words.
-fn statuses(out: Stdout) {
+fn statuses<W: Write>(out: &mut W) {
     list(
         out,
-        Ask::Status,
+        status,
         b"Muss Soll Kann X M S K muss MUSS Mus Musss Mu MussX x m s k X[1] X1 XX MM Soll. KannKann \
           Y",
     );
 }
 
 // From and to.
-const RANGES: [u32; 28] = [
-    0, 0, 0x08, 0x0E, 0x1B, 0x21, 0x84, 0x86, 0x9F, 0xA1, 0x167F, 0x1681, 0x180E, 0x180E, 0x1FFF,
-    0x200D, 0x2027, 0x202A, 0x202E, 0x2030, 0x205E, 0x2060, 0x2FFF, 0x3001, 0xFEFF, 0xFEFF,
-    0x10FFFF, 0x10FFFF,
+const RANGES: [(u32, u32); 14] = [
+    (0, 0),
+    (0x08, 0x0E),
+    (0x1B, 0x21),
+    (0x84, 0x86),
+    (0x9F, 0xA1),
+    (0x167F, 0x1681),
+    (0x180E, 0x180E),
+    (0x1FFF, 0x200D),
+    (0x2027, 0x202A),
+    (0x202E, 0x2030),
+    (0x205E, 0x2060),
+    (0x2FFF, 0x3001),
+    (0xFEFF, 0xFEFF),
+    (0x10FFFF, 0x10FFFF),
 ];
 
 // White space, and its neighbours.
-fn white_space(out: Stdout) {
-    let mut i = 0;
-    while i + 1 < RANGES.len() {
-        white_between(out, RANGES[i], RANGES[i + 1]);
-        i += 2;
+fn white_space<W: Write>(out: &mut W) {
+    for (low, high) in RANGES {
+        for code in low..=high {
+            white(out, code);
+        }
     }
 }
 
 // UTF-8, and how many characters it is.
-fn encodings(out: Stdout) {
+fn encodings<W: Write>(out: &mut W) {
     list(
         out,
-        Ask::Utf8,
+        encoding,
         b"a abc \xC3\xA4 \xE2\x88\xA7 \xF0\x9F\x98\x80 a\xC3\xA4\xE2\x88\xA7\xF0\x9F\x98\x80 \
           \xC2\x80 \xDF\xBF \xE0\xA0\x80 \xED\x9F\xBF \xEE\x80\x80 \xEF\xBF\xBF \xF0\x90\x80\x80 \
           \xF4\x8F\xBF\xBF \xFF \xFE \x80 \xBF \xC0\x80 \xC1\xBF \xC2 \xC2a \xC3\xC3 \xE0\x80\x80 \
@@ -676,39 +587,39 @@ fn encodings(out: Stdout) {
 }
 
 // The longest text and the longest value, 4,400 and 1,024 bytes, and one byte more.
-fn limits(out: Stdout) {
-    around(out, Ask::Kind, b"", b' ', 4400);
-    around(out, Ask::Kind, b"", b'P', 4400);
-    around(out, Ask::Kind, b"", 0xFF, 4400);
-    around(out, Ask::Paket, b"", b'1', 4400);
-    around(out, Ask::Paket, b"", 0xFF, 4400);
-    around(out, Ask::Registered, b"", b'9', 4400);
-    around(out, Ask::Registered, b"", 0xFF, 4400);
-    around(out, Ask::Condition, b"0", b'9', 4400);
-    around(out, Ask::Condition, b"\xFF", b'9', 4400);
-    around(out, Ask::Condition, b"\xFF", 0xFF, 4400);
+fn limits<W: Write>(out: &mut W) {
+    around(out, kind, b' ', 4400);
+    around(out, kind, b'P', 4400);
+    around(out, kind, 0xFF, 4400);
+    around(out, paket, b'1', 4400);
+    around(out, paket, 0xFF, 4400);
+    around(out, registered, b'9', 4400);
+    around(out, registered, 0xFF, 4400);
+    around(out, |to, word| evaluate(to, word, b"0"), b'9', 4400);
+    around(out, |to, word| evaluate(to, word, b"\xFF"), b'9', 4400);
+    around(out, |to, word| evaluate(to, word, b"\xFF"), 0xFF, 4400);
 }
 
 // The same of values, which are tested after the text.
-fn value_limits(out: Stdout) {
-    around(out, Ask::Value, b"902", b'9', 1024);
-    around(out, Ask::Value, b"926", b'0', 1024);
-    around(out, Ask::Value, b"955", b'0', 1024);
-    around(out, Ask::Value, b"955", b'1', 1024);
-    around(out, Ask::Value, b"918", b'A', 1024);
-    around(out, Ask::Value, b"950", b'9', 1024);
-    around(out, Ask::Value, b"902", 0xFF, 1024);
-    around(out, Ask::Value, b"\xFF", b'9', 1024);
+fn value_limits<W: Write>(out: &mut W) {
+    around(out, |to, value| evaluate(to, b"902", value), b'9', 1024);
+    around(out, |to, value| evaluate(to, b"926", value), b'0', 1024);
+    around(out, |to, value| evaluate(to, b"955", value), b'0', 1024);
+    around(out, |to, value| evaluate(to, b"955", value), b'1', 1024);
+    around(out, |to, value| evaluate(to, b"918", value), b'A', 1024);
+    around(out, |to, value| evaluate(to, b"950", value), b'9', 1024);
+    around(out, |to, value| evaluate(to, b"902", value), 0xFF, 1024);
+    around(out, |to, value| evaluate(to, b"\xFF", value), b'9', 1024);
 }
 
 // A bool as a truth.
-fn truths(out: Stdout) {
+fn truths<W: Write>(out: &mut W) {
     truth(out, false);
     truth(out, true);
 }
 
 // Texts and values with spaces.
-fn with_spaces(out: Stdout) {
+fn with_spaces<W: Write>(out: &mut W) {
     values_with_spaces(
         out,
         b"910| 5|5 \n\
@@ -726,17 +637,17 @@ fn with_spaces(out: Stdout) {
     );
     lines(
         out,
-        Ask::Kind,
+        kind,
         b"\n 5\n5 \n5 5\n UB1\n1 [2\n \n\xC2\xA05\n1 P\nUB 1\n\xFF\nUB\xC3\n1P\xED\xA0\x80",
     );
     lines(
         out,
-        Ask::Paket,
+        paket,
         b"\n 1P\n1P \n1 P\n1P1.. 2\n1P 1..2\n\xFF\n1P\xC3",
     );
-    lines(out, Ask::Registered, b"\n 902\n\xFF");
-    lines(out, Ask::Status, b"\n X\nX \nMuss ");
-    asked(out, Ask::Utf8, b"", b"");
+    lines(out, registered, b"\n 902\n\xFF");
+    lines(out, status, b"\n X\nX \nMuss ");
+    encoding(out, b"");
     evaluate(out, b"918", b"A\n");
     evaluate(out, b"", b"0");
     evaluate(out, b"950", b"");
@@ -744,7 +655,8 @@ fn with_spaces(out: Stdout) {
 }
 
 fn main(rt: HostRuntime) {
-    let out = rt.stdout();
+    let mut stdout = rt.stdout();
+    let out = &mut stdout;
     bounds_below(out);
     bounds_above(out);
     exact(out);

@@ -6,18 +6,12 @@ ghost use Rattle.std.specs.Prelude.{◌≡◌, [], ◌∷◌, ◌+◌, ◌≤◌
 ghost use Rattle.grammar.specs.Bytes.{field, two_bytes};
 ghost use Rattle.fields.specs.Appended.{Appended};
 
-fn wide(x: u8) -> usize
-    ensures { (result ≡ x) × (result < 256) }
-{
-    x as usize
-}
-
 // The number in two bytes, little-endian.
 pub fn get16(s: &[u8], at: usize) -> usize
     requires { at + 1 < length s.now }
     ensures { (result ≡ field s.now at) × (result < 65536) }
 {
-    wide(s[at]) + 256 * wide(s[at + 1])
+    usize::from(s[at]) + 256 * usize::from(s[at + 1])
 }
 
 // One byte; the answer is the place after it, here and below.
@@ -44,10 +38,7 @@ pub fn put_text(text: &[u8], out: &mut [u8], at: usize) -> usize
     requires { at + length text.now ≤ length out.old }
     ensures { Appended text.now at out.old out.new result }
 {
-    let mut i = 0;
-    while i < text.len() {
-        out[at + i] = text[i];
-        i += 1;
-    }
-    at + i
+    let end = at + text.len();
+    out[at..end].copy_from_slice(text);
+    end
 }

@@ -1,61 +1,43 @@
 -- Laws of the rules. Assumes nothing.
 use Prim.Native.Nat.{ℕ, suc, ◌+◌, ◌≤◌, ◌<◌}
-use mathlib.Core.Path.{◌≡◌, refl, sym, ap, ◌∙◌}
+use mathlib.Core.Path.{◌≡◌, refl, sym, ◌∙◌}
 use mathlib.Core.Bool.{Bool, true, false, ◌&&◌, and-false}
-use mathlib.Core.List.{List, [], ◌∷◌}
+use mathlib.Core.List.{List, [], ◌∷◌, ◌++◌}
 use native.Mathlib.Omega.{arith}
 use native.Mathlib.Numerals.{add-one}
 use mathlib.Core.Option.{Option, none, some}
 use lib.ListN.{length, get_or, take, drop, length-drop, drop_of_length-le}
-use lib.Seq.{drop-cons, drop-drop}
+use lib.Seq.{drop-cons}
+use lib.Dec.{eqb}
 use Rattle.text.specs.Bytes.{begins}
 use Rattle.text.specs.Digits.{all_digits}
 use Rattle.utf8.specs.Utf8.{is_utf8, step_at}
 use Rattle.utf8.specs.declared.Step.TheVariants.{Char, Bad, End}
 use Rattle.utf8.proofs.Laws.{char_at, decode-at, decode_nil, step_bad, step_end, utf8_nil}
-use Rattle.formats.specs.declared.FormatVerdict.{FormatVerdict}
-use Rattle.formats.specs.declared.FormatVerdict.TheVariants.{Holds, Violated}
 use Rattle.formats.specs.Answers.{is_verdict}
 use Rattle.formats.specs.Table.{rules, rule_of, judged_by, verdict, is_rule, is_registered}
 use Rattle.formats.specs.Rules.{Rule, unoc_upper, is_unoc_upper, group_ahead, digit_groups, passes, verdict_of, judged}
 
-module _ (r : Rule) (v : List ℕ) where
-  -- a test that says what the rule says
-  pub judged_test : (b : Bool) {x : FormatVerdict} → x ≡ verdict_of b → b ≡ passes r v → x ≡ judged r v
-  unfolding judged
-  judged_test b p q = p ∙ ap verdict_of q
-
-  pub judged_violated : passes r v ≡ false → Violated ≡ judged r v
-  unfolding judged
-  judged_violated h = rw h
-
-  pub judged-holds : passes r v ≡ true → Holds ≡ judged r v
-  unfolding judged
-  judged-holds h = rw h
-
--- the groups from the k-th on, at a place of the value
-module _ (ws s : List ℕ) (k at : ℕ) (hk : k + 1 < length ws) where
-  groups_step : digit_groups (drop k ws) (drop at s) ≡ (group_ahead (get_or ws k 0) (drop at s) && digit_groups (drop (k + 1) ws) (drop (get_or ws k 0 + 1) (drop at s)))
+-- the groups from the i-th on, the last one's width apart
+module _ (ws s : List ℕ) (last i : ℕ) (h : i < length ws) where
+  groups_step : digit_groups (drop i ws ++ last ∷ []) s ≡ (group_ahead (get_or ws i 0) s && digit_groups (drop (i + 1) ws ++ last ∷ []) (drop (get_or ws i 0 + 1) s))
   unfolding digit_groups
-  groups_step =
-      let l : k < length ws = omega arith in
-      let m : suc k < length ws = omega arith in
-      rw (add-one k, drop-cons ws k 0 l, drop-cons ws (suc k) 0 m)
+  groups_step = rw (drop-cons ws i 0 h, add-one i) (more (get_or ws i 0) (drop (suc i) ws))
+    where
+      more : (w : ℕ) (v : List ℕ) → digit_groups (w ∷ (v ++ last ∷ [])) s ≡ (group_ahead w s && digit_groups (v ++ last ∷ []) (drop (w + 1) s))
+      more w [] = refl
+      more w (u ∷ v) = refl
 
-  pub groups_next : group_ahead (get_or ws k 0) (drop at s) ≡ true → digit_groups (drop (k + 1) ws) (drop (at + get_or ws k 0 + 1) s) ≡ digit_groups (drop k ws) (drop at s)
-  groups_next h =
-      let e : at + get_or ws k 0 + 1 ≡ at + (get_or ws k 0 + 1) = omega arith in
-      let d : drop (get_or ws k 0 + 1) (drop at s) ≡ drop (at + (get_or ws k 0 + 1)) s = rw drop-drop in
-      ap (λ (n : ℕ). digit_groups (drop (k + 1) ws) (drop n s)) e ∙ ap (digit_groups (drop (k + 1) ws)) (sym d) ∙ sym (groups_step ∙ rw h)
+  pub groups_next : group_ahead (get_or ws i 0) s ≡ true → digit_groups (drop (i + 1) ws ++ last ∷ []) (drop (get_or ws i 0 + 1) s) ≡ digit_groups (drop i ws ++ last ∷ []) s
+  groups_next e = sym (groups_step ∙ rw e)
 
-  pub groups_fail : group_ahead (get_or ws k 0) (drop at s) ≡ false → false ≡ digit_groups (drop k ws) (drop at s)
-  groups_fail h = sym (groups_step ∙ rw h)
+  pub groups_fail : group_ahead (get_or ws i 0) s ≡ false → false ≡ digit_groups (drop i ws ++ last ∷ []) s
+  groups_fail e = sym (groups_step ∙ rw e)
 
 -- the last group
-pub groups_last : (ws s : List ℕ) (k at : ℕ) → k + 1 ≡ length ws → digit_groups (drop k ws) (drop at s) ≡ digit_groups (get_or ws k 0 ∷ []) (drop at s)
-groups_last ws s k at h =
-    let l : k < length ws = omega arith in
-    rw (drop-cons ws k 0 l, drop_of_length-le ws {i = suc k} (omega arith))
+pub groups_last : (ws s : List ℕ) (last i : ℕ) → length ws ≤ i → (eqb (length s) last && all_digits s) ≡ digit_groups (drop i ws ++ last ∷ []) s
+unfolding digit_groups
+groups_last ws s last i h = rw (drop_of_length-le ws h)
 
 -- where a group and its `-` stand, they have room
 pub group-room : (width : ℕ) (s : List ℕ) → group_ahead width s ≡ true → width + 1 ≤ length s
@@ -82,9 +64,6 @@ module _ (s : List ℕ) (at c w : ℕ) (h : at ≤ length s) (e : step_at s at �
 
 pub upper_bad : (s : List ℕ) (at : ℕ) → step_at s at ≡ Bad → false ≡ passes unoc_upper (drop at s)
 upper_bad s at e = rw (step_bad (drop at s) e)
-
-pub upper_end : (s : List ℕ) (at : ℕ) → length s ≤ at → true ≡ passes unoc_upper (drop at s)
-upper_end s at h = rw (drop_of_length-le s h, utf8_nil, decode_nil)
 
 pub upper_nil : (s : List ℕ) (at : ℕ) → step_at s at ≡ End → true ≡ passes unoc_upper (drop at s)
 upper_nil s at e = rw (step_end (drop at s) e, utf8_nil, decode_nil)

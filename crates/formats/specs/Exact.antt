@@ -1,11 +1,10 @@
 -- What the rules on numbers say of a value's exact value, by the laws of crate decimal. Assumes nothing.
-use Rattle.std.specs.Prelude.{ℕ, ◌*◌, ◌^◌, ◌<◌, ◌≡◌, refl, ◌↔◌, Bool, true, false, ◌&&◌, List, eqb, length}
+use Rattle.std.specs.Prelude.{ℕ, ◌*◌, ◌^◌, ◌<◌, ◌≡◌, refl, ◌↔◌, Bool, true, false, ◌&&◌, List, eqb, length, Some, None}
 use Rattle.std.specs.Int.{◌∣◌}
 use Rattle.std.proofs.Common.{ap, ◌∙◌, subst, sym, mul-one, arith, eqb-true}
 use Rattle.laws.specs.Tests.{and_both, and_intro}
 use Rattle.text.specs.Digits.{all_digits, nat_of}
 use Rattle.decimal.specs.Decimal.{is_number, is_integer, against, Exact, exact_of, orderℕ, order_of, signed}
-use Rattle.decimal.specs.declared.Order.TheVariants.{NoNumber}
 use Rattle.decimal.proofs.Exact.{compared, not_compared, size_of, integer_number, fraction_number, integer_exact, fraction_exact, digits_number, digits_exact, whole_order}
 use Rattle.formats.specs.declared.Relation.{Relation}
 use Rattle.formats.specs.declared.Relation.TheVariants.{AtLeast, AtMost, GreaterThan, LessThan, Exactly, NotExactly}
@@ -13,10 +12,10 @@ use Rattle.formats.specs.Rules.{bound, whole_between, fraction_up_to, integer_up
 
 -- the value stands in this relation to the integer of this size, below zero or not
 abbrev pub stands : Relation → Exact → Bool → ℕ → Bool
-stands o x below size = meets o (order_of x (signed below size 0))
+stands o x below size = meets o (Some (order_of x (signed below size 0)))
 
 -- what is no number stands in no relation
-none_met : (o : Relation) → meets o NoNumber ≡ false
+none_met : (o : Relation) → meets o None ≡ false
 none_met AtLeast = refl
 none_met AtMost = refl
 none_met GreaterThan = refl
@@ -73,12 +72,12 @@ between_exact low high v = (there, back)
         (and_intro (passes (bound AtMost false high) v) (is_integer v) h w)
 
 -- four digits: the number that they write stands so to the bound
-pub hhmm_exact : (o : Relation) (n : ℕ) (v : List ℕ) → passes (hhmm_in o n) v ≡ (eqb (length v) 4 && (all_digits v && meets o (orderℕ (nat_of v) n)))
+pub hhmm_exact : (o : Relation) (n : ℕ) (v : List ℕ) → passes (hhmm_in o n) v ≡ (eqb (length v) 4 && (all_digits v && meets o (Some (orderℕ (nat_of v) n))))
 hhmm_exact o n v = go (eqb (length v) 4) (all_digits v) refl refl
   where
-    go : (x y : Bool) → eqb (length v) 4 ≡ x → all_digits v ≡ y → (x && (y && meets o (against v false n))) ≡ (x && (y && meets o (orderℕ (nat_of v) n)))
+    go : (x y : Bool) → eqb (length v) 4 ≡ x → all_digits v ≡ y → (x && (y && meets o (against v false n))) ≡ (x && (y && meets o (Some (orderℕ (nat_of v) n))))
     go false y e a = refl
     go true false e a = refl
     go true true e a =
         let h = digits_number v a (omega (arith, eqb-true (length v) 4 e)) in
-        ap (meets o) (compared v false n h ∙ ap (λ (x : Exact). order_of x (signed false n 0)) (digits_exact v a) ∙ whole_order (nat_of v) n)
+        ap (meets o) (compared v false n h ∙ ap Some (ap (λ (x : Exact). order_of x (signed false n 0)) (digits_exact v a) ∙ whole_order (nat_of v) n))

@@ -1,13 +1,13 @@
 -- What a format condition can say of a value (docs/SEMANTICS.md, 'Format conditions'). Assumes nothing.
-use Rattle.std.specs.Prelude.{ℕ, ◌+◌, List, [], ◌∷◌, Bool, true, false, not, ◌&&◌, ◌||◌, length, take, drop, leb, eqb}
+use Rattle.std.specs.Prelude.{ℕ, ◌+◌, List, [], ◌∷◌, Bool, true, false, not, ◌&&◌, ◌||◌, length, take, drop, leb, eqb, Option, Some, None}
 use Rattle.text.specs.Quoted.{ascii}
 use Rattle.text.specs.Bytes.{all, begins, ends, has}
 use Rattle.text.specs.Digits.{all_digits}
 use Rattle.utf8.specs.White.{among}
 use Rattle.utf8.specs.Utf8.{is_utf8, decode, char_count}
 use Rattle.decimal.specs.Decimal.{is_number, against, integer_at_most, fraction_at_most, is_integer}
-use Rattle.decimal.specs.declared.Order.{Order}
-use Rattle.decimal.specs.declared.Order.TheVariants.{Less, Equal, Greater, NoNumber}
+use Rattle.std.specs.declared.cmp.Ordering.{Ordering}
+use Rattle.std.specs.declared.cmp.Ordering.TheVariants.{Less, Equal, Greater}
 use Rattle.moment.specs.Moments.{day_boundary}
 use Rattle.formats.specs.declared.FormatVerdict.{FormatVerdict}
 use Rattle.formats.specs.declared.FormatVerdict.TheVariants.{Holds, Violated}
@@ -15,28 +15,28 @@ use Rattle.formats.specs.declared.Relation.{Relation}
 use Rattle.formats.specs.declared.Relation.TheVariants.{AtLeast, AtMost, GreaterThan, LessThan, Exactly, NotExactly}
 
 -- the order is Less
-abbrev pub is_less : Order → Bool
-is_less Less = true
-is_less Equal = false
-is_less Greater = false
-is_less NoNumber = false
+abbrev pub is_less : Option Ordering → Bool
+is_less (Some Less) = true
+is_less (Some Equal) = false
+is_less (Some Greater) = false
+is_less None = false
 
 -- the order is Equal
-abbrev pub is_equal : Order → Bool
-is_equal Less = false
-is_equal Equal = true
-is_equal Greater = false
-is_equal NoNumber = false
+abbrev pub is_equal : Option Ordering → Bool
+is_equal (Some Less) = false
+is_equal (Some Equal) = true
+is_equal (Some Greater) = false
+is_equal None = false
 
 -- the order is Greater
-abbrev pub is_greater : Order → Bool
-is_greater Less = false
-is_greater Equal = false
-is_greater Greater = true
-is_greater NoNumber = false
+abbrev pub is_greater : Option Ordering → Bool
+is_greater (Some Less) = false
+is_greater (Some Equal) = false
+is_greater (Some Greater) = true
+is_greater None = false
 
 -- the relations, by the order of exact values; what is no number stands in none
-abbrev pub meets : Relation → Order → Bool
+abbrev pub meets : Relation → Option Ordering → Bool
 meets AtLeast o = is_equal o || is_greater o
 meets AtMost o = is_less o || is_equal o
 meets GreaterThan o = is_greater o

@@ -1,40 +1,41 @@
 // Format conditions: what each of the 47 that have an evaluator here says of a value.
 
-#![tactic(auto)]
+#![tactic(auto, unfolding(crate::specs::Rules::judged))]
 
 ghost use Rattle.std.specs.Prelude.{◌≡◌, ◌≤◌, length, drop, [], ◌∷◌, ◌++◌};
 ghost use Rattle.formats.specs.Rules.{meets, group_ahead, digit_groups, is_unoc_upper, bound, any_number, whole_between, fraction_up_to, integer_up_to, groups_of, length_is, length_up_to, field_is, hhmm_in, unoc_upper, zzz_utc, email_shape, phone_shape, boundary_at, boundary_of, passes, verdict_of, judged};
 ghost use Rattle.formats.specs.Table.{digit_rules, shape_rules, time_rules, rules, id_of, judged_in, verdict};
-ghost use Rattle.formats.specs.Answers.{is_verdict, verdict_number, verdict_truth, verdict_said, verdict_answer, registered_said, registered_answer};
+ghost use Rattle.formats.specs.Answers.{is_verdict, verdict_number, verdict_truth, verdict_answer, registered_answer};
 
 use citation::Truth;
-use decimal::Order;
 use refusal::Refusal;
-use utf8::Admitted;
+use std::cmp::Ordering;
 
 // What a format condition says of one value.
-#[derive(Clone, Copy)]
+#[derive(Clone, Copy, Debug, PartialEq, Eq)]
 pub enum FormatVerdict {
     Holds,
     Violated,
     Unregistered,
 }
 
-impl FormatVerdict {
-    pub fn number(self) -> u8
-        ensures { result ≡ verdict_number self }
-    {
-        match self {
+impl From<FormatVerdict> for u8 {
+    ghost from_gives = { λ v number. number ≡ verdict_number v };
+
+    fn from(v: FormatVerdict) -> u8 {
+        match v {
             FormatVerdict::Violated => 0,
             FormatVerdict::Unregistered => 1,
             FormatVerdict::Holds => 2,
         }
     }
+}
 
-    pub fn truth(self) -> Truth
-        ensures { result ≡ verdict_truth self }
-    {
-        match self {
+impl From<FormatVerdict> for Truth {
+    ghost from_gives = { λ v truth. truth ≡ verdict_truth v };
+
+    fn from(v: FormatVerdict) -> Truth {
+        match v {
             FormatVerdict::Violated => Truth::False,
             FormatVerdict::Unregistered => Truth::Unknown,
             FormatVerdict::Holds => Truth::True,
@@ -42,8 +43,20 @@ impl FormatVerdict {
     }
 }
 
+impl From<bool> for FormatVerdict {
+    ghost from_gives = { λ passed v. v ≡ verdict_of passed };
+
+    fn from(passed: bool) -> FormatVerdict {
+        if passed {
+            FormatVerdict::Holds
+        } else {
+            FormatVerdict::Violated
+        }
+    }
+}
+
 // How a number has to stand to a bound.
-#[derive(Clone, Copy)]
+#[derive(Clone, Copy, Debug, PartialEq, Eq)]
 pub enum Relation {
     AtLeast,
     AtMost,
@@ -53,75 +66,25 @@ pub enum Relation {
     NotExactly,
 }
 
-// A verdict, or why there is none.
-#[derive(Clone, Copy)]
-pub enum VerdictAnswer {
-    Verdict(FormatVerdict),
-    Refused(Refusal),
-}
-
-// Whether there is an evaluator, or why that is not said.
-#[derive(Clone, Copy)]
-pub enum RegisteredAnswer {
-    Known(bool),
-    Refused(Refusal),
-}
-
-fn verdict_of(passed: bool) -> FormatVerdict
-    ensures { result ≡ verdict_of passed }
-{
-    if passed {
-        FormatVerdict::Holds
-    } else {
-        FormatVerdict::Violated
-    }
-}
-
 // What an order says of a relation: a text that is no number stands in none.
-fn meets_order(relation: Relation, o: Order) -> bool
-    ensures { result ≡ meets relation o }
+fn meets_order(relation: Relation, order: Option<Ordering>) -> bool
+    ensures { result ≡ meets relation order }
 {
+    let Some(order) = order else {
+        return false;
+    };
     match relation {
-        Relation::AtLeast => match o {
-            Order::Less => false,
-            Order::Equal => true,
-            Order::Greater => true,
-            Order::NoNumber => false,
-        },
-        Relation::AtMost => match o {
-            Order::Less => true,
-            Order::Equal => true,
-            Order::Greater => false,
-            Order::NoNumber => false,
-        },
-        Relation::GreaterThan => match o {
-            Order::Less => false,
-            Order::Equal => false,
-            Order::Greater => true,
-            Order::NoNumber => false,
-        },
-        Relation::LessThan => match o {
-            Order::Less => true,
-            Order::Equal => false,
-            Order::Greater => false,
-            Order::NoNumber => false,
-        },
-        Relation::Exactly => match o {
-            Order::Less => false,
-            Order::Equal => true,
-            Order::Greater => false,
-            Order::NoNumber => false,
-        },
-        Relation::NotExactly => match o {
-            Order::Less => true,
-            Order::Equal => false,
-            Order::Greater => true,
-            Order::NoNumber => false,
-        },
+        Relation::AtLeast => order.is_ge(),
+        Relation::AtMost => order.is_le(),
+        Relation::GreaterThan => order.is_gt(),
+        Relation::LessThan => order.is_lt(),
+        Relation::Exactly => order.is_eq(),
+        Relation::NotExactly => order.is_ne(),
     }
 }
 
 // Whether the value is a number in this relation to an integer, below zero or not.
+// Relation, sign and size are three arguments, as in the rules: a struct of them would be spelt out in each row of `judge`.
 fn in_relation(value: &[u8], relation: Relation, below: bool, size: u32) -> bool
     ensures { result ≡ passes (bound relation below size) value.now }
 {
@@ -131,101 +94,78 @@ fn in_relation(value: &[u8], relation: Relation, below: bool, size: u32) -> bool
 fn compare(value: &[u8], relation: Relation, below: bool, size: u32) -> FormatVerdict
     ensures { result ≡ judged (bound relation below size) value.now }
 {
-    verdict_of(in_relation(value, relation, below, size))
+    FormatVerdict::from(in_relation(value, relation, below, size))
 }
 
 fn numeric(value: &[u8]) -> FormatVerdict
     ensures { result ≡ judged any_number value.now }
 {
-    verdict_of(decimal::is_number(value))
+    FormatVerdict::from(decimal::is_number(value))
 }
 
 // A whole number from low to high.
 fn between(value: &[u8], low: u32, high: u32) -> FormatVerdict
     ensures { result ≡ judged (whole_between low high) value.now }
 {
-    if !in_relation(value, Relation::AtLeast, false, low) {
-        return FormatVerdict::Violated;
-    }
-    if !in_relation(value, Relation::AtMost, false, high) {
-        return FormatVerdict::Violated;
-    }
-    verdict_of(decimal::is_integer(value))
+    FormatVerdict::from(
+        in_relation(value, Relation::AtLeast, false, low)
+            && in_relation(value, Relation::AtMost, false, high)
+            && decimal::is_integer(value),
+    )
 }
 
 fn max_fraction_digits(value: &[u8], most: usize) -> FormatVerdict
     ensures { result ≡ judged (fraction_up_to most) value.now }
 {
-    verdict_of(decimal::fraction_at_most(value, most))
+    FormatVerdict::from(decimal::fraction_at_most(value, most))
 }
 
 fn max_integer_digits(value: &[u8], most: usize) -> FormatVerdict
     ensures { result ≡ judged (integer_up_to most) value.now }
 {
-    verdict_of(decimal::integer_at_most(value, most))
+    FormatVerdict::from(decimal::integer_at_most(value, most))
 }
 
-// So many digits and a `-` stand at a place.
-fn group_at(value: &[u8], at: usize, width: usize) -> bool
-    requires { at ≤ length value.now }
-    ensures { result ≡ group_ahead width (drop at value.now) }
+// So many digits and a `-` stand in front.
+fn group_ahead(rest: &[u8], width: usize) -> bool
+    ensures { result ≡ group_ahead width rest.now }
 {
-    if value.len() - at <= width {
-        return false;
-    }
-    if !text::all_digits(text::between(value, at, width)) {
-        return false;
-    }
-    text::begins_at(value, at + width, b"-")
-}
-
-// The rest from a place on is so many digits.
-fn last_group(value: &[u8], at: usize, width: usize) -> bool
-    requires { at ≤ length value.now }
-    ensures { result ≡ digit_groups (width ∷ []) (drop at value.now) }
-{
-    if value.len() - at != width {
-        return false;
-    }
-    text::all_digits(text::tail(value, at))
+    text::all_digits(text::head(rest, width)) && text::begins_at(rest, width, b"-")
 }
 
 fn fits_groups(value: &[u8], widths: &[usize]) -> bool
     ensures { result ≡ digit_groups widths.now value.now }
 {
-    if widths.len() == 0 {
+    let Some((last, before)) = widths.split_last() else {
         return false;
-    }
-    let mut at = 0;
-    let mut k = 0;
-    while k + 1 < widths.len() {
-        let width = widths[k];
-        if !group_at(value, at, width) {
+    };
+    let mut rest = value;
+    for width in before {
+        if !group_ahead(rest, *width) {
             return false;
         }
-        at = at + width + 1;
-        k += 1;
+        rest = text::tail(rest, *width + 1);
     }
-    last_group(value, at, widths[k])
+    rest.len() == *last && text::all_digits(rest)
 }
 
 // Groups of so many digits each, joined by `-`.
 fn digit_groups(value: &[u8], widths: &[usize]) -> FormatVerdict
     ensures { result ≡ judged (groups_of widths.now) value.now }
 {
-    verdict_of(fits_groups(value, widths))
+    FormatVerdict::from(fits_groups(value, widths))
 }
 
 fn exact_length(value: &[u8], count: usize) -> FormatVerdict
     ensures { result ≡ judged (length_is count) value.now }
 {
-    verdict_of(utf8::count(value) == count)
+    FormatVerdict::from(utf8::count(value) == count)
 }
 
 fn max_length(value: &[u8], most: usize) -> FormatVerdict
     ensures { result ≡ judged (length_up_to most) value.now }
 {
-    verdict_of(utf8::count(value) <= most)
+    FormatVerdict::from(utf8::count(value) <= most)
 }
 
 // A text that stands from a byte on in a value CCYYMMDDHHMMZZZ.
@@ -233,26 +173,20 @@ fn dtm_303_field(value: &[u8], at: usize, want: &[u8]) -> FormatVerdict
     requires { at ≤ 15 }
     ensures { result ≡ judged (field_is at want.now) value.now }
 {
-    if value.len() != 15 {
-        return FormatVerdict::Violated;
-    }
-    if !text::all_digits(text::head(value, 12)) {
-        return FormatVerdict::Violated;
-    }
-    verdict_of(text::begins_at(value, at, want))
+    FormatVerdict::from(
+        value.len() == 15
+            && text::all_digits(text::head(value, 12))
+            && text::begins_at(value, at, want),
+    )
 }
 
 // Four digits in this relation to a bound.
 fn hhmm(value: &[u8], relation: Relation, limit: u32) -> FormatVerdict
     ensures { result ≡ judged (hhmm_in relation limit) value.now }
 {
-    if value.len() != 4 {
-        return FormatVerdict::Violated;
-    }
-    if !text::all_digits(value) {
-        return FormatVerdict::Violated;
-    }
-    verdict_of(in_relation(value, relation, false, limit))
+    FormatVerdict::from(
+        value.len() == 4 && text::all_digits(value) && in_relation(value, relation, false, limit),
+    )
 }
 
 // Marks of the Latin-1 codes: 1 where condition 918 admits the character.
@@ -270,75 +204,63 @@ const UNOC_UPPER: [u8; 256] = [
 fn is_unoc_upper(code: u32) -> bool
     ensures { result ≡ is_unoc_upper code }
 {
-    if code < 256 {
-        let i = code as usize;
-        return UNOC_UPPER[i] == 1;
-    }
-    false
+    code < 256 && UNOC_UPPER[code as usize] == 1
 }
 
 fn all_unoc_upper(value: &[u8]) -> bool
     ensures { result ≡ passes unoc_upper value.now }
 {
     let mut at = 0;
-    while at < value.len() {
-        let here = utf8::step_at(value, at);
-        match here {
+    // Steps by a character's width.
+    loop {
+        match utf8::step_at(value, at) {
             utf8::Step::Char { code, width } => {
                 if !is_unoc_upper(code) {
                     return false;
                 }
                 at += width;
             }
-            utf8::Step::Bad => {
-                return false;
-            }
-            utf8::Step::End => {
-                return true;
-            }
+            utf8::Step::Bad => return false,
+            utf8::Step::End => return true,
         }
     }
-    true
 }
 
 fn unoc_upper(value: &[u8]) -> FormatVerdict
     ensures { result ≡ judged unoc_upper value.now }
 {
-    verdict_of(all_unoc_upper(value))
+    FormatVerdict::from(all_unoc_upper(value))
 }
 
 fn zzz_utc(value: &[u8]) -> FormatVerdict
     ensures { result ≡ judged zzz_utc value.now }
 {
-    verdict_of(text::ends_with(value, b"+00"))
+    FormatVerdict::from(text::ends_with(value, b"+00"))
 }
 
 fn email_shape(value: &[u8]) -> FormatVerdict
     ensures { result ≡ judged email_shape value.now }
 {
-    if value.len() <= text::find(value, b"@") {
-        return FormatVerdict::Violated;
-    }
-    verdict_of(text::find(value, b".") < value.len())
+    FormatVerdict::from(
+        text::find(value, b"@") < value.len() && text::find(value, b".") < value.len(),
+    )
 }
 
 fn phone_shape(value: &[u8]) -> FormatVerdict
     ensures { result ≡ judged phone_shape value.now }
 {
-    if value.len() < 2 {
-        return FormatVerdict::Violated;
-    }
-    if !text::begins_at(value, 0, b"+") {
-        return FormatVerdict::Violated;
-    }
-    verdict_of(text::all_digits(text::tail(value, 1)))
+    FormatVerdict::from(
+        2 <= value.len()
+            && text::begins_at(value, 0, b"+")
+            && text::all_digits(text::tail(value, 1)),
+    )
 }
 
 // A day boundary of one of the two kinds of day.
 fn day_boundary(value: &[u8], summer: &[u8], winter: &[u8]) -> FormatVerdict
     ensures { result ≡ judged (boundary_at summer.now winter.now) value.now }
 {
-    verdict_of(moment::day_boundary(value, summer, winter))
+    FormatVerdict::from(moment::day_boundary(value, summer, winter))
 }
 
 // A day boundary of one kind or of another.
@@ -351,10 +273,10 @@ fn either_boundary(
 ) -> FormatVerdict
     ensures { result ≡ judged (boundary_of summer.now winter.now summer2.now winter2.now) value.now }
 {
-    if moment::day_boundary(value, summer, winter) {
-        return FormatVerdict::Holds;
-    }
-    verdict_of(moment::day_boundary(value, summer2, winter2))
+    FormatVerdict::from(
+        moment::day_boundary(value, summer, winter)
+            || moment::day_boundary(value, summer2, winter2),
+    )
 }
 
 // Times and day boundaries.
@@ -415,7 +337,8 @@ fn judge_digits(id: u32, value: &[u8]) -> FormatVerdict
     }
 }
 
-// Numbers against a bound, then the rest.
+// Numbers against a bound, then the rest. The match on numbers is the original's, arm by arm, so that both can be held side by
+// side.
 fn judge(id: u32, value: &[u8]) -> FormatVerdict
     ensures { result ≡ judged_in rules id value.now }
 {
@@ -440,38 +363,24 @@ fn judge(id: u32, value: &[u8]) -> FormatVerdict
     }
 }
 
-fn wide(x: u8) -> u32
-    ensures { result ≡ x }
-{
-    x as u32
-}
-
 // The number of a text of three digits or of UB and a digit, 0 of any other.
 fn id_of(text: &[u8]) -> u32
     ensures { result ≡ id_of text.now }
 {
-    if text.len() != 3 {
+    let [a, b, c] = text else {
+        return 0;
+    };
+    if !text::is_digit(*c) {
         return 0;
     }
-    let a = text[0];
-    let b = text[1];
-    let c = text[2];
-    if !text::is_digit(c) {
-        return 0;
+    let last = u32::from(*c - b'0');
+    if text::is_digit(*a) && text::is_digit(*b) {
+        return u32::from(*a - b'0') * 100 + u32::from(*b - b'0') * 10 + last;
     }
-    if text::is_digit(a) {
-        if text::is_digit(b) {
-            return wide(a - 48) * 100 + wide(b - 48) * 10 + wide(c - 48);
-        }
-        return 0;
+    if *a == b'U' && *b == b'B' {
+        return 1000 + last;
     }
-    if a != 85 {
-        return 0;
-    }
-    if b != 66 {
-        return 0;
-    }
-    1000 + wide(c - 48)
+    0
 }
 
 // The verdict of the condition with this text on a value, whatever their bytes.
@@ -481,36 +390,17 @@ pub fn verdict_on(text: &[u8], value: &[u8]) -> FormatVerdict
     judge(id_of(text), value)
 }
 
-pub fn evaluate(text: &[u8], value: &[u8]) -> VerdictAnswer
-    ensures { verdict_said result ≡ verdict_answer text.now value.now }
+pub fn evaluate(text: &[u8], value: &[u8]) -> Result<FormatVerdict, Refusal>
+    ensures { result ≡ verdict_answer text.now value.now }
 {
-    let first = utf8::admit(text, utf8::TEXT_LIMIT);
-    if let Admitted::Refused(why) = first {
-        return VerdictAnswer::Refused(why);
-    }
-    let second = utf8::admit(value, utf8::VALUE_LIMIT);
-    if let Admitted::Refused(why) = second {
-        return VerdictAnswer::Refused(why);
-    }
-    VerdictAnswer::Verdict(verdict_on(text, value))
+    utf8::admit(text, utf8::TEXT_LIMIT)?;
+    utf8::admit(value, utf8::VALUE_LIMIT)?;
+    Ok(verdict_on(text, value))
 }
 
-fn has_verdict(v: FormatVerdict) -> bool
-    ensures { result ≡ is_verdict v }
+pub fn is_registered(text: &[u8]) -> Result<bool, Refusal>
+    ensures { result ≡ registered_answer text.now }
 {
-    match v {
-        FormatVerdict::Holds => true,
-        FormatVerdict::Violated => true,
-        FormatVerdict::Unregistered => false,
-    }
-}
-
-pub fn is_registered(text: &[u8]) -> RegisteredAnswer
-    ensures { registered_said result ≡ registered_answer text.now }
-{
-    let admitted = utf8::admit(text, utf8::TEXT_LIMIT);
-    match admitted {
-        Admitted::Refused(why) => RegisteredAnswer::Refused(why),
-        Admitted::Fine => RegisteredAnswer::Known(has_verdict(verdict_on(text, b""))),
-    }
+    utf8::admit(text, utf8::TEXT_LIMIT)?;
+    Ok(verdict_on(text, b"") != FormatVerdict::Unregistered)
 }

@@ -1,7 +1,8 @@
 -- A tree cites what its tokens cite, and lexing yields citable texts only. Assumes nothing.
-use Rattle.std.specs.Prelude.{◌≡◌, refl, List, [], ◌∷◌, ◌++◌, Bool, true, false, cond, ℕ, eqb}
+use Rattle.std.specs.Prelude.{◌≡◌, refl, List, [], ◌∷◌, ◌++◌, Bool, true, false, cond, ℕ, eqb, Result, Ok, Err}
 use Rattle.std.proofs.Common.{sym, ◌∙◌, subst, append_assoc, append-nil}
-use Rattle.refusal.specs.Result.{Result, ok, refused, refuse, map_ok}
+use Rattle.refusal.specs.declared.Refusal.{Refusal}
+use Rattle.refusal.specs.Result.{map_ok}
 use Rattle.refusal.specs.declared.Refusal.TheVariants.{EmptyCondition}
 use Rattle.utf8.specs.Utf8.{encode, Scalar, Scalars}
 use Rattle.grammar.specs.Expr.{Op, Expr, Exprs, cite, Then, join, none, more, ◌◂◌, ◌▸◌, citations, citations_of, citations_append}
@@ -48,9 +49,9 @@ opens_texts : Opens → List (List ℕ)
 opens_texts top = []
 opens_texts (within l run w) = opens_texts w ++ (left_texts l ++ citations_of run)
 
-abbrev Cites : List (List ℕ) → Result Expr → Type 0
-Cites x (ok e) = citations e ≡ x
-Cites x (refused k) = Unit
+abbrev Cites : List (List ℕ) → Result Expr Refusal → Type 0
+Cites x (Ok e) = citations e ≡ x
+Cites x (Err k) = Unit
 
 value-cites : (l : Left) (run : Exprs) → citations (whole (value l run)) ≡ left_texts l ++ citations_of run
 unfolding value left_texts whole
@@ -79,13 +80,13 @@ read-cites (closing ∷ ts) l (more e es) (within l' run' w) =
     at (read-cites ts l' (run' ▸ whole (value l (e ◂ es))) w))
 
 -- a tree cites what its tokens cite, in their order
-pub parse-cites : (ts : List Tok) (e : Expr) → parse ts ≡ ok e → citations e ≡ texts ts
+pub parse-cites : (ts : List Tok) (e : Expr) → parse ts ≡ Ok e → citations e ≡ texts ts
 unfolding parse left_texts opens_texts citations
 parse-cites ts e h = subst (Cites (texts ts)) h (read-cites ts start none top)
 
-abbrev Lexed : Result (List Tok) → Type 0
-Lexed (ok ts) = AllCitable (texts ts)
-Lexed (refused k) = Unit
+abbrev Lexed : Result (List Tok) Refusal → Type 0
+Lexed (Ok ts) = AllCitable (texts ts)
+Lexed (Err k) = Unit
 
 -- the characters of a citation so far
 abbrev Open : List ℕ → Type 0
@@ -99,25 +100,25 @@ open_more (d ∷ t) c u s h =
     let i = open_more t c (u.0.1, r.1) s h in
     ((u.0.0, i.0), rw r.0 i.1)
 
-outer_lexed : (p : Part) (i r : Result (List Tok)) → Lexed i → Lexed r → Lexed (outer p i r)
+outer_lexed : (p : Part) (i r : Result (List Tok) Refusal) → Lexed i → Lexed r → Lexed (outer p i r)
 unfolding outer map_ok texts
 outer_lexed bracket i r hi hr = hi
-outer_lexed (sign o) i (ok ts) hi hr = hr
-outer_lexed (sign o) i (refused k) hi hr = tt
-outer_lexed left i (ok ts) hi hr = hr
-outer_lexed left i (refused k) hi hr = tt
-outer_lexed right i (ok ts) hi hr = hr
-outer_lexed right i (refused k) hi hr = tt
+outer_lexed (sign o) i (Ok ts) hi hr = hr
+outer_lexed (sign o) i (Err k) hi hr = tt
+outer_lexed left i (Ok ts) hi hr = hr
+outer_lexed left i (Err k) hi hr = tt
+outer_lexed right i (Ok ts) hi hr = hr
+outer_lexed right i (Err k) hi hr = tt
 outer_lexed space i r hi hr = hr
 outer_lexed stray i r hi hr = tt
 
-ended_lexed : (b : Bool) (t : List ℕ) (r : Result (List Tok)) → blank t ≡ b → Open t → Lexed r → Lexed (cond b (refuse EmptyCondition) (also (cited (encode t)) r))
+ended_lexed : (b : Bool) (t : List ℕ) (r : Result (List Tok) Refusal) → blank t ≡ b → Open t → Lexed r → Lexed (cond b (Err EmptyCondition) (also (cited (encode t)) r))
 unfolding map_ok texts
 ended_lexed true t r h u hr = tt
-ended_lexed false t (ok ts) h u hr = (citable_encoded t u.0 h u.1, hr)
-ended_lexed false t (refused k) h u hr = tt
+ended_lexed false t (Ok ts) h u hr = (citable_encoded t u.0 h u.1, hr)
+ended_lexed false t (Err k) h u hr = tt
 
-inner_lexed : (b : Bool) (t : List ℕ) (i r : Result (List Tok)) → Open t → (b ≡ false → Lexed i) → Lexed r → Lexed (inner b t i r)
+inner_lexed : (b : Bool) (t : List ℕ) (i r : Result (List Tok) Refusal) → Open t → (b ≡ false → Lexed i) → Lexed r → Lexed (inner b t i r)
 unfolding inner
 inner_lexed true t i r u hi hr = ended_lexed (blank t) t r refl u hr
 inner_lexed false t i r u hi hr = hi refl
@@ -136,5 +137,5 @@ mutual
       (λ h. inside_citable (t ++ (c ∷ [])) cs s.1 (open_more t c u s.0 h)) (lex_citable cs s.1)
 
 -- lexing yields citable texts only
-pub lexed_citable : (cs : List ℕ) → Scalars cs → (ts : List Tok) → lex cs ≡ ok ts → AllCitable (texts ts)
+pub lexed_citable : (cs : List ℕ) → Scalars cs → (ts : List Tok) → lex cs ≡ Ok ts → AllCitable (texts ts)
 lexed_citable cs s ts h = subst Lexed h (lex_citable cs s)

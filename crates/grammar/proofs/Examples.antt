@@ -1,7 +1,8 @@
 -- Worked cases of reading and printing, one list and one proof for each kind. Assumes nothing.
-use Rattle.std.specs.Prelude.{◌≡◌, refl, List, [], ◌∷◌, ◌++◌, true, false, ℕ, zero, suc}
+use Rattle.std.specs.Prelude.{◌≡◌, refl, List, [], ◌∷◌, ◌++◌, true, false, ℕ, zero, suc, Result, Ok, Err}
 use Prim.Native.String.{String}
-use Rattle.refusal.specs.Result.{Result, ok, refuse, then, map_ok}
+use Rattle.refusal.specs.declared.Refusal.{Refusal}
+use Rattle.refusal.specs.Result.{then, map_ok}
 use Rattle.refusal.specs.declared.Refusal.TheVariants.{Stray, Unterminated, EmptyCondition, MissingOperand, Parentheses, Empty, NoStatusWord, TooLong, NotUtf8, TooManyCitations, TooDeep, NotATree}
 use Rattle.utf8.specs.Utf8.{is_utf8, decode, encode_char, lead_of}
 use Rattle.utf8.specs.White.{is_white}
@@ -29,40 +30,40 @@ repeat zero s = []
 repeat (suc n) s = s ++ repeat n s
 
 -- what texts read as, in order
-abbrev readings : List (List ℕ × Result Expr) → List (Result Expr)
+abbrev readings : List (List ℕ × Result Expr Refusal) → List (Result Expr Refusal)
 readings [] = []
 readings (x ∷ xs) = reading x.0 ∷ readings xs
 
 -- what they are to read as
-abbrev wanted : List (List ℕ × Result Expr) → List (Result Expr)
+abbrev wanted : List (List ℕ × Result Expr Refusal) → List (Result Expr Refusal)
 wanted [] = []
 wanted (x ∷ xs) = x.1 ∷ wanted xs
 
-abbrev cases : List (List ℕ × Result Expr)
+abbrev cases : List (List ℕ × Result Expr Refusal)
 cases =
-    (bytes "[1 [2]", ok (c "1 [2"))
-    ∷ (bytes "[[ ]", ok (c "[ "))
-    ∷ (bytes "[ 1 ]", ok (c " 1 "))
-    ∷ (bytes "[ ", refuse Unterminated)
-    ∷ (bytes "[ ]", refuse EmptyCondition)
-    ∷ (bytes "]", refuse Stray)
-    ∷ (bytes "[1] + [ ]", refuse Stray)
-    ∷ (bytes "[ ] + [2", refuse EmptyCondition)
-    ∷ (bytes "[1] ∧ [2", refuse Unterminated)
-    ∷ (bytes "   ", refuse Empty)
-    ∷ (bytes "[1] ∧", refuse MissingOperand)
-    ∷ (bytes "()", refuse MissingOperand)
-    ∷ (bytes "([1]", refuse Parentheses)
-    ∷ (bytes "[1]) ∧", refuse Parentheses)
-    ∷ (bytes "[1] ∧ [2] ∨ [3]", ok (join Or (join And (c "1" ◂ c "2" ◂ none) ◂ c "3" ◂ none)))
-    ∷ (bytes "[1] ∨ [2] [3]", ok (join Or (c "1" ◂ Then (c "2" ◂ c "3" ◂ none) ◂ none)))
-    ∷ (bytes "([1] [2]) [3]", ok (Then (Then (c "1" ◂ c "2" ◂ none) ◂ c "3" ◂ none)))
-    ∷ (bytes "(([1]))", ok (c "1"))
-    ∷ (bytes "([1] ⊻ [2]) ⊻ [3]", ok (join Xor (c "1" ◂ c "2" ◂ c "3" ◂ none)))
-    ∷ (bytes "[1] ⊻ ([2] ⊻ [3])", ok (join Xor (c "1" ◂ join Xor (c "2" ◂ c "3" ◂ none) ◂ none)))
-    ∷ (bytes "([1] ∧ [2] ∨ [3]) ∨ [4]", ok (join Or (join And (c "1" ◂ c "2" ◂ none) ◂ c "3" ◂ c "4" ◂ none)))
-    ∷ (bytes "([1] ∨ [2] ∧ [3]) ∨ [4]", ok (join Or (join And (join Or (c "1" ◂ c "2" ◂ none) ◂ c "3" ◂ none) ◂ c "4" ◂ none)))
-    ∷ (bytes "([1] ∨ [2]) [3] ∨ [4]", ok (join Or (Then (join Or (c "1" ◂ c "2" ◂ none) ◂ c "3" ◂ none) ◂ c "4" ◂ none)))
+    (bytes "[1 [2]", Ok (c "1 [2"))
+    ∷ (bytes "[[ ]", Ok (c "[ "))
+    ∷ (bytes "[ 1 ]", Ok (c " 1 "))
+    ∷ (bytes "[ ", Err Unterminated)
+    ∷ (bytes "[ ]", Err EmptyCondition)
+    ∷ (bytes "]", Err Stray)
+    ∷ (bytes "[1] + [ ]", Err Stray)
+    ∷ (bytes "[ ] + [2", Err EmptyCondition)
+    ∷ (bytes "[1] ∧ [2", Err Unterminated)
+    ∷ (bytes "   ", Err Empty)
+    ∷ (bytes "[1] ∧", Err MissingOperand)
+    ∷ (bytes "()", Err MissingOperand)
+    ∷ (bytes "([1]", Err Parentheses)
+    ∷ (bytes "[1]) ∧", Err Parentheses)
+    ∷ (bytes "[1] ∧ [2] ∨ [3]", Ok (join Or (join And (c "1" ◂ c "2" ◂ none) ◂ c "3" ◂ none)))
+    ∷ (bytes "[1] ∨ [2] [3]", Ok (join Or (c "1" ◂ Then (c "2" ◂ c "3" ◂ none) ◂ none)))
+    ∷ (bytes "([1] [2]) [3]", Ok (Then (Then (c "1" ◂ c "2" ◂ none) ◂ c "3" ◂ none)))
+    ∷ (bytes "(([1]))", Ok (c "1"))
+    ∷ (bytes "([1] ⊻ [2]) ⊻ [3]", Ok (join Xor (c "1" ◂ c "2" ◂ c "3" ◂ none)))
+    ∷ (bytes "[1] ⊻ ([2] ⊻ [3])", Ok (join Xor (c "1" ◂ join Xor (c "2" ◂ c "3" ◂ none) ◂ none)))
+    ∷ (bytes "([1] ∧ [2] ∨ [3]) ∨ [4]", Ok (join Or (join And (c "1" ◂ c "2" ◂ none) ◂ c "3" ◂ c "4" ◂ none)))
+    ∷ (bytes "([1] ∨ [2] ∧ [3]) ∨ [4]", Ok (join Or (join And (join Or (c "1" ◂ c "2" ◂ none) ◂ c "3" ◂ none) ◂ c "4" ◂ none)))
+    ∷ (bytes "([1] ∨ [2]) [3] ∨ [4]", Ok (join Or (Then (join Or (c "1" ◂ c "2" ◂ none) ◂ c "3" ◂ none) ◂ c "4" ◂ none)))
     ∷ []
 
 cases_hold : readings cases ≡ wanted cases
@@ -74,17 +75,17 @@ times zero es = es
 times (suc n) es = times n (c "1" ◂ es)
 
 -- the limits: 10, 11, 12 and 13, whose count never falls below 0
-abbrev limits : List (List ℕ × Result Expr)
+abbrev limits : List (List ℕ × Result Expr Refusal)
 limits =
-    (repeat 4401 (bytes " "), refuse TooLong)
-    ∷ (repeat 4400 (bytes " "), refuse Empty)
-    ∷ (0xFF ∷ [], refuse NotUtf8)
-    ∷ (repeat 256 (bytes "[1]"), ok (Then (times 256 none)))
-    ∷ (repeat 257 (bytes "[1]"), refuse TooManyCitations)
-    ∷ (repeat 257 (bytes "(") ++ repeat 257 (bytes "[1]"), refuse TooManyCitations)
-    ∷ (repeat 257 (bytes "("), refuse TooDeep)
-    ∷ (repeat 300 (bytes ")") ++ repeat 257 (bytes "("), refuse TooDeep)
-    ∷ (repeat 300 (bytes ")") ++ repeat 256 (bytes "("), refuse MissingOperand)
+    (repeat 4401 (bytes " "), Err TooLong)
+    ∷ (repeat 4400 (bytes " "), Err Empty)
+    ∷ (0xFF ∷ [], Err NotUtf8)
+    ∷ (repeat 256 (bytes "[1]"), Ok (Then (times 256 none)))
+    ∷ (repeat 257 (bytes "[1]"), Err TooManyCitations)
+    ∷ (repeat 257 (bytes "(") ++ repeat 257 (bytes "[1]"), Err TooManyCitations)
+    ∷ (repeat 257 (bytes "("), Err TooDeep)
+    ∷ (repeat 300 (bytes ")") ++ repeat 257 (bytes "("), Err TooDeep)
+    ∷ (repeat 300 (bytes ")") ++ repeat 256 (bytes "("), Err MissingOperand)
     ∷ []
 
 limits_hold : readings limits ≡ wanted limits
@@ -96,25 +97,25 @@ cited_limit_lem : (few (repeat 2048 (bytes "1") ∷ []) ≡ true) × (few (repea
 unfolding few concat encode_char
 cited_limit_lem = (refl, refl)
 
-abbrev statuses : List (List ℕ × Result Stated) → List (Result Stated)
+abbrev statuses : List (List ℕ × Result Stated Refusal) → List (Result Stated Refusal)
 statuses [] = []
 statuses (x ∷ xs) = status_reading x.0 ∷ statuses xs
 
-abbrev statuses_wanted : List (List ℕ × Result Stated) → List (Result Stated)
+abbrev statuses_wanted : List (List ℕ × Result Stated Refusal) → List (Result Stated Refusal)
 statuses_wanted [] = []
 statuses_wanted (x ∷ xs) = x.1 ∷ statuses_wanted xs
 
-abbrev status_cases : List (List ℕ × Result Stated)
+abbrev status_cases : List (List ℕ × Result Stated Refusal)
 status_cases =
-    (bytes " X ", ok (alone X))
-    ∷ (bytes "X[1]", refuse NoStatusWord)
-    ∷ (bytes "  ", refuse NoStatusWord)
-    ∷ (bytes "muss [1]", refuse NoStatusWord)
-    ∷ (bytes "Muss [1]", ok (stated Muss (c "1")))
-    ∷ (bytes "[ X", refuse NoStatusWord)
-    ∷ (bytes "X [ ]", refuse EmptyCondition)
-    ∷ (bytes "X\t[1]  ∧ [2]", ok (stated X (join And (c "1" ◂ c "2" ◂ none))))
-    ∷ (bytes "X [1" ++ repeat 4000 (bytes " ") ++ bytes "2]", ok (stated X (c "1 2")))
+    (bytes " X ", Ok (alone X))
+    ∷ (bytes "X[1]", Err NoStatusWord)
+    ∷ (bytes "  ", Err NoStatusWord)
+    ∷ (bytes "muss [1]", Err NoStatusWord)
+    ∷ (bytes "Muss [1]", Ok (stated Muss (c "1")))
+    ∷ (bytes "[ X", Err NoStatusWord)
+    ∷ (bytes "X [ ]", Err EmptyCondition)
+    ∷ (bytes "X\t[1]  ∧ [2]", Ok (stated X (join And (c "1" ◂ c "2" ◂ none))))
+    ∷ (bytes "X [1" ++ repeat 4000 (bytes " ") ++ bytes "2]", Ok (stated X (c "1 2")))
     ∷ []
 
 statuses_hold : statuses status_cases ≡ statuses_wanted status_cases
@@ -163,11 +164,11 @@ small_bytes : bytes_of (join Or (c "1" ◂ c "23" ◂ none)) ≡ small
 unfolding bytes_of packed head_bytes row_bytes cite_bytes two_bytes rows node op_kind many citations concat encode_char
 small_bytes = refl
 
-small-tree : tree_of small ≡ ok (join Or (c "1" ◂ c "23" ◂ none))
+small-tree : tree_of small ≡ Ok (join Or (c "1" ◂ c "23" ◂ none))
 unfolding tree_of is_tree head_ok tiles size_of rows_from cited_from rows_ok row_ok cites_ok citable is_utf8 decode lead_of blank holds is_white tree_at forest_at first build place made firsts rests encode_char
 small-tree = refl
 
 -- no bytes are no tree
-no-tree : tree_of [] ≡ refuse NotATree
+no-tree : tree_of [] ≡ Err NotATree
 unfolding tree_of is_tree head_ok
 no-tree = refl

@@ -1,7 +1,8 @@
 -- Every refusal of reading and of the test for a tree is one of the table. Assumes nothing.
-use Rattle.std.specs.Prelude.{refl, List, [], ◌∷◌, ◌++◌, Bool, true, false, ℕ, eqb, leb, length}
+use Rattle.std.specs.Prelude.{refl, List, [], ◌∷◌, ◌++◌, Bool, true, false, ℕ, eqb, leb, length, Result, Ok, Err}
 use Rattle.laws.specs.Tests.{cond_both}
-use Rattle.refusal.specs.Result.{Result, ok, refuse, unless}
+use Rattle.refusal.specs.declared.Refusal.{Refusal}
+use Rattle.refusal.specs.Result.{unless}
 use Rattle.refusal.specs.Known.{Among, Known, unless-among, map_known, then_known}
 use Rattle.refusal.specs.declared.Refusal.TheVariants.{Stray, Unterminated, EmptyCondition, MissingOperand, Parentheses, Empty, NoStatusWord, TooLong, NotUtf8, TooManyCitations, TooDeep, NotATree}
 use Rattle.utf8.specs.Utf8.{is_utf8, decode, encode}
@@ -18,11 +19,11 @@ use Rattle.grammar.specs.Bytes.{is_tree, tree_at, tree_of}
 
 module _ {A : Type 0} (P : A → Type 0) where
   -- 10 and 11 are of the table
-  pub admitted-among : (most : ℕ) (s : List ℕ) (r : Result A) → Among P r → Among P (admitted most s r)
+  pub admitted-among : (most : ℕ) (s : List ℕ) (r : Result A Refusal) → Among P r → Among P (admitted most s r)
   unfolding admitted
   admitted-among most s r h = unless-among P (leb (length s) most) TooLong (unless (is_utf8 s) NotUtf8 r) (unless-among P (is_utf8 s) NotUtf8 r h)
 
-outer_known : (p : Part) (i r : Result (List Tok)) → Known i → Known r → Known (outer p i r)
+outer_known : (p : Part) (i r : Result (List Tok) Refusal) → Known i → Known r → Known (outer p i r)
 unfolding outer
 outer_known bracket i r hi hr = hi
 outer_known (sign o) i r hi hr = map_known (λ ts. op o ∷ ts) r hr
@@ -31,10 +32,10 @@ outer_known right i r hi hr = map_known (λ ts. closing ∷ ts) r hr
 outer_known space i r hi hr = hr
 outer_known stray i r hi hr = (Stray, refl)
 
-inner_known : (b : Bool) (t : List ℕ) (i r : Result (List Tok)) → Known i → Known r → Known (inner b t i r)
+inner_known : (b : Bool) (t : List ℕ) (i r : Result (List Tok) Refusal) → Known i → Known r → Known (inner b t i r)
 unfolding inner
 inner_known true t i r hi hr =
-    cond_both Known (blank t) (refuse EmptyCondition) (also (cited (encode t)) r) (λ _. (EmptyCondition, refl)) λ _. map_known (λ ts. cited (encode t) ∷ ts) r hr
+    cond_both Known (blank t) (Err EmptyCondition) (also (cited (encode t)) r) (λ _. (EmptyCondition, refl)) λ _. map_known (λ ts. cited (encode t) ∷ ts) r hr
 inner_known false t i r hi hr = hi
 
 mutual
@@ -79,7 +80,7 @@ reading_known s = admitted-among (λ _. Unit {0}) text_limit s (expression (deco
 kind_known : (ks : List StatusKind) (w : List ℕ) → Known (kind_among ks w)
 unfolding kind_among
 kind_known [] w = (NoStatusWord, refl)
-kind_known (k ∷ ks) w = cond_both Known (same (word_of k) w) (ok k) (kind_among ks w) (λ _. tt) λ _. kind_known ks w
+kind_known (k ∷ ks) w = cond_both Known (same (word_of k) w) (Ok k) (kind_among ks w) (λ _. tt) λ _. kind_known ks w
 
 after_known : (ws : List (List ℕ)) (k : StatusKind) → Known (after_word k ws)
 unfolding after_word
@@ -99,4 +100,4 @@ status_known s = admitted-among (λ _. Unit {0}) text_limit s (of_words (words (
 -- the refusals of a tree
 pub tree_of_known : (b : List ℕ) → Known (tree_of b)
 unfolding tree_of
-tree_of_known b = unless-among (λ _. Unit {0}) (is_tree b) NotATree (ok (tree_at b 0)) tt
+tree_of_known b = unless-among (λ _. Unit {0}) (is_tree b) NotATree (Ok (tree_at b 0)) tt

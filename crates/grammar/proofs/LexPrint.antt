@@ -1,7 +1,8 @@
 -- The printed bytes are UTF-8 and are lexed as the printed tokens. Assumes nothing.
-use Rattle.std.specs.Prelude.{◌≡◌, refl, List, [], ◌∷◌, ◌++◌, true, false, ℕ}
+use Rattle.std.specs.Prelude.{◌≡◌, refl, List, [], ◌∷◌, ◌++◌, true, false, ℕ, Result, Ok, Err}
 use Rattle.std.proofs.Common.{ap, ◌∙◌, append_assoc, append-nil}
-use Rattle.refusal.specs.Result.{Result, ok, refused, refuse, map_ok}
+use Rattle.refusal.specs.declared.Refusal.{Refusal}
+use Rattle.refusal.specs.Result.{map_ok}
 use Rattle.refusal.specs.declared.Refusal.TheVariants.{Unterminated}
 use Rattle.utf8.specs.Utf8.{is_utf8, decode, encode, encode_char, lead_of}
 use Rattle.utf8.specs.White.{is_white}
@@ -14,15 +15,15 @@ use Rattle.grammar.specs.Print.{in_tokens, in_bytes, sign_bytes, print, printed}
 use Rattle.grammar.proofs.Print.{print_related}
 use Rattle.grammar.specs.LexPrint.{before, Lexes}
 
-before_none : (r : Result (List Tok)) → r ≡ before [] r
+before_none : (r : Result (List Tok) Refusal) → r ≡ before [] r
 unfolding before map_ok
-before_none (ok ts) = refl
-before_none (refused k) = refl
+before_none (Ok ts) = refl
+before_none (Err k) = refl
 
-before-before : (a b : List Tok) (r : Result (List Tok)) → before a (before b r) ≡ before (a ++ b) r
+before-before : (a b : List Tok) (r : Result (List Tok) Refusal) → before a (before b r) ≡ before (a ++ b) r
 unfolding before map_ok
-before-before a b (ok us) = rw append_assoc
-before-before a b (refused k) = refl
+before-before a b (Ok us) = rw append_assoc
+before-before a b (Err k) = refl
 
 -- a citation goes on to its `]`
 pub inside_read : (t u cs : List ℕ) → holds cite_end u ≡ false → inside t (u ++ (cite_end ∷ cs)) ≡ inside (t ++ u) (cite_end ∷ cs)
@@ -32,7 +33,7 @@ inside_read t (c ∷ u) cs h =
     let r = holds_none cite_end c u h in rw r.0 (inside_read (t ++ (c ∷ [])) u cs r.1 ∙ rw append_assoc)
 
 -- a citation goes on to the end, if no `]` follows
-pub inside_open : (t u : List ℕ) → holds cite_end u ≡ false → inside t u ≡ refuse Unterminated
+pub inside_open : (t u : List ℕ) → holds cite_end u ≡ false → inside t u ≡ Err Unterminated
 unfolding inside inner holds
 inside_open t [] h = refl
 inside_open t (c ∷ u) h = let r = holds_none cite_end c u h in rw r.0 (inside_open (t ++ (c ∷ [])) u r.1)
@@ -121,6 +122,6 @@ print_lexes = print_related in_bytes in_tokens Lexes record {
 }
 
 -- the whole print is lexed as its printed tokens
-pub print_lexed : (e : Expr) → AllCitable (citations e) → lex (decode (printed e)) ≡ ok (print in_tokens e)
+pub print_lexed : (e : Expr) → AllCitable (citations e) → lex (decode (printed e)) ≡ Ok (print in_tokens e)
 unfolding before map_ok lex
 print_lexed e h = rw (append-nil (decode (printed e)), append-nil (print in_tokens e)) at ((print_lexes e h).goes [])

@@ -1,9 +1,9 @@
 -- Reading a status never says that there is no expression. Assumes nothing.
-use Rattle.std.specs.Prelude.{◌≡◌, refl, List, [], ◌∷◌, ◌++◌, Bool, true, false, ℕ, eqb, leb, length}
+use Rattle.std.specs.Prelude.{◌≡◌, refl, List, [], ◌∷◌, ◌++◌, Bool, true, false, ℕ, eqb, leb, length, Result, Ok, Err}
 use Rattle.std.proofs.Common.{sym, ◌∙◌, subst}
 use Rattle.std.proofs.lemmas.Bool.{false≢true}
 use Rattle.laws.specs.Tests.{cond_both}
-use Rattle.refusal.specs.Result.{Result, ok, refused, refuse, unless, then, map_ok}
+use Rattle.refusal.specs.Result.{unless, then, map_ok}
 use Rattle.refusal.specs.Refusals.{number_of}
 use Rattle.refusal.specs.declared.Refusal.{Refusal}
 use Rattle.refusal.specs.declared.Refusal.TheVariants.{Empty, EmptyCondition, TooLong, NotUtf8, TooManyCitations, TooDeep}
@@ -21,11 +21,11 @@ use Rattle.grammar.specs.Status.{ended, words_from, words, joined, stated, after
 
 module _ {A : Type 0} where
   -- an answer, or another refusal than 6
-  abbrev NotEmpty : Result A → Type 0
-  NotEmpty (ok a) = Unit
-  NotEmpty (refused k) = eqb k (number_of Empty) ≡ false
+  abbrev NotEmpty : Result A Refusal → Type 0
+  NotEmpty (Ok a) = Unit
+  NotEmpty (Err k) = eqb (number_of k) (number_of Empty) ≡ false
 
-  unless_not : (b : Bool) (why : Refusal) (r : Result A) → eqb (number_of why) (number_of Empty) ≡ false → NotEmpty r → NotEmpty (unless b why r)
+  unless_not : (b : Bool) (why : Refusal) (r : Result A Refusal) → eqb (number_of why) (number_of Empty) ≡ false → NotEmpty r → NotEmpty (unless b why r)
   unless_not true why r h k = k
   unless_not false why r h k = h
 
@@ -49,24 +49,24 @@ tree-not t ts =
     (unless_not (shallow open_limit 0 (t ∷ ts)) TooDeep _ refl (read-not (t ∷ ts) start none top))
 
 -- tokens, or another refusal than 6
-abbrev SomeTokens : Result (List Tok) → Type 0
-SomeTokens (ok []) = ⊥
-SomeTokens (ok (t ∷ ts)) = Unit
-SomeTokens (refused k) = eqb k (number_of Empty) ≡ false
+abbrev SomeTokens : Result (List Tok) Refusal → Type 0
+SomeTokens (Ok []) = ⊥
+SomeTokens (Ok (t ∷ ts)) = Unit
+SomeTokens (Err k) = eqb (number_of k) (number_of Empty) ≡ false
 
-abbrev Tokens : Result (List Tok) → Type 0
-Tokens (ok ts) = Unit
-Tokens (refused k) = eqb k (number_of Empty) ≡ false
+abbrev Tokens : Result (List Tok) Refusal → Type 0
+Tokens (Ok ts) = Unit
+Tokens (Err k) = eqb (number_of k) (number_of Empty) ≡ false
 
-also_some : (t : Tok) (r : Result (List Tok)) → Tokens r → SomeTokens (also t r)
+also_some : (t : Tok) (r : Result (List Tok) Refusal) → Tokens r → SomeTokens (also t r)
 unfolding map_ok
-also_some t (ok ts) h = tt
-also_some t (refused k) h = h
+also_some t (Ok ts) h = tt
+also_some t (Err k) h = h
 
-some_tokens : (r : Result (List Tok)) → SomeTokens r → Tokens r
-some_tokens (ok []) h = tt
-some_tokens (ok (t ∷ ts)) h = tt
-some_tokens (refused k) h = h
+some_tokens : (r : Result (List Tok) Refusal) → SomeTokens r → Tokens r
+some_tokens (Ok []) h = tt
+some_tokens (Ok (t ∷ ts)) h = tt
+some_tokens (Err k) h = h
 
 abbrev NotSpace : Part → Type 0
 NotSpace bracket = Unit
@@ -87,7 +87,7 @@ part-not c w =
     λ _. cond_both NotSpace (eqb c (symbol Xor)) _ _ (λ _. tt)
     λ _. cond_both NotSpace (is_white c) _ _ (λ t. absurd (false≢true (sym w ∙ t))) λ _. tt
 
-outer_some : (p : Part) (i r : Result (List Tok)) → SomeTokens i → Tokens r → NotSpace p → SomeTokens (outer p i r)
+outer_some : (p : Part) (i r : Result (List Tok) Refusal) → SomeTokens i → Tokens r → NotSpace p → SomeTokens (outer p i r)
 unfolding outer
 outer_some bracket i r hi hr n = hi
 outer_some (sign o) i r hi hr n = also_some (op o) r hr
@@ -96,7 +96,7 @@ outer_some right i r hi hr n = also_some closing r hr
 outer_some space i r hi hr n = absurd n
 outer_some stray i r hi hr n = refl
 
-outer_tokens : (p : Part) (i r : Result (List Tok)) → SomeTokens i → Tokens r → Tokens (outer p i r)
+outer_tokens : (p : Part) (i r : Result (List Tok) Refusal) → SomeTokens i → Tokens r → Tokens (outer p i r)
 unfolding outer
 outer_tokens bracket i r hi hr = some_tokens i hi
 outer_tokens (sign o) i r hi hr = some_tokens (also (op o) r) (also_some (op o) r hr)
@@ -105,10 +105,10 @@ outer_tokens right i r hi hr = some_tokens (also closing r) (also_some closing r
 outer_tokens space i r hi hr = hr
 outer_tokens stray i r hi hr = refl
 
-inner_some : (b : Bool) (t : List ℕ) (i r : Result (List Tok)) → SomeTokens i → Tokens r → SomeTokens (inner b t i r)
+inner_some : (b : Bool) (t : List ℕ) (i r : Result (List Tok) Refusal) → SomeTokens i → Tokens r → SomeTokens (inner b t i r)
 unfolding inner
 inner_some true t i r hi hr =
-    cond_both SomeTokens (blank t) (refuse EmptyCondition) (also (cited (encode t)) r) (λ _. refl) λ _. also_some (cited (encode t)) r hr
+    cond_both SomeTokens (blank t) (Err EmptyCondition) (also (cited (encode t)) r) (λ _. refl) λ _. also_some (cited (encode t)) r hr
 inner_some false t i r hi hr = hi
 
 mutual
@@ -137,10 +137,10 @@ expression-not : (cs : List ℕ) → Solid cs → NotEmpty (expression cs)
 unfolding expression then
 expression-not cs w = go (lex cs) (lex_solid cs w)
   where
-    go : (r : Result (List Tok)) → SomeTokens r → NotEmpty (then r tree)
-    go (ok (t ∷ ts)) h = tree-not t ts
-    go (ok []) h = elim h [ ]
-    go (refused k) h = h
+    go : (r : Result (List Tok) Refusal) → SomeTokens r → NotEmpty (then r tree)
+    go (Ok (t ∷ ts)) h = tree-not t ts
+    go (Ok []) h = elim h [ ]
+    go (Err k) h = h
 
 abbrev AllSolid : List (List ℕ) → Type 0
 AllSolid [] = Unit
@@ -173,10 +173,10 @@ unfolding joined
 joined_solid (c ∷ w) ws h = h
 joined_solid [] ws h = elim h [ ]
 
-stated_not : (k : StatusKind) (r : Result Expr) → NotEmpty r → NotEmpty (map_ok (stated k) r)
+stated_not : (k : StatusKind) (r : Result Expr Refusal) → NotEmpty r → NotEmpty (map_ok (stated k) r)
 unfolding map_ok
-stated_not k (ok e) h = tt
-stated_not k (refused n) h = h
+stated_not k (Ok e) h = tt
+stated_not k (Err n) h = h
 
 after-not : (k : StatusKind) (ws : List (List ℕ)) → AllSolid ws → NotEmpty (after_word k ws)
 unfolding after_word
@@ -186,16 +186,16 @@ after-not k (w ∷ ws) h = stated_not k (expression (joined (w ∷ ws))) (expres
 kind_not : (ks : List StatusKind) (w : List ℕ) → NotEmpty (kind_among ks w)
 unfolding kind_among
 kind_not [] w = refl
-kind_not (k ∷ ks) w = cond_both NotEmpty (same (word_of k) w) (ok k) (kind_among ks w) (λ _. tt) λ _. kind_not ks w
+kind_not (k ∷ ks) w = cond_both NotEmpty (same (word_of k) w) (Ok k) (kind_among ks w) (λ _. tt) λ _. kind_not ks w
 
 words-not : (ws : List (List ℕ)) → AllSolid ws → NotEmpty (of_words ws)
 unfolding of_words then kind_of_word
 words-not [] h = refl
 words-not (w ∷ ws) h = go (kind_among kinds (encode w)) (kind_not kinds (encode w))
   where
-    go : (r : Result StatusKind) → NotEmpty r → NotEmpty (then r (λ k. after_word k ws))
-    go (ok k) n = after-not k ws h.1
-    go (refused m) n = n
+    go : (r : Result StatusKind Refusal) → NotEmpty r → NotEmpty (then r (λ k. after_word k ws))
+    go (Ok k) n = after-not k ws h.1
+    go (Err m) n = n
 
 status_not : (s : List ℕ) → NotEmpty (status_reading s)
 unfolding status_reading admitted words
@@ -204,5 +204,5 @@ status_not s =
     (unless_not (is_utf8 s) NotUtf8 _ refl (words-not (words_from [] (decode s)) (words_solid [] (decode s) tt)))
 
 -- a status is never turned back with 6
-pub status_never_empty : (s : List ℕ) → status_reading s ≡ refuse Empty → ⊥
+pub status_never_empty : (s : List ℕ) → status_reading s ≡ Err Empty → ⊥
 status_never_empty s h = false≢true (sym (subst NotEmpty h (status_not s)))

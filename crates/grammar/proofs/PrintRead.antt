@@ -1,7 +1,7 @@
 -- Reading what was printed. Assumes nothing.
-use Rattle.std.specs.Prelude.{◌≡◌, refl, List, [], ◌∷◌, ◌↔◌, true, length}
+use Rattle.std.specs.Prelude.{◌≡◌, refl, List, [], ◌∷◌, ◌↔◌, true, length, Ok}
 use Rattle.std.proofs.Common.{sym, ap, ◌∙◌, arith, le-leb}
-use Rattle.refusal.specs.Result.{ok, refused≢ok, then}
+use Rattle.refusal.specs.Result.{err≢ok, then}
 use Rattle.utf8.specs.Limits.{text_limit}
 use Rattle.utf8.specs.Utf8.{decode}
 use Rattle.utf8.proofs.Limits.{fits}
@@ -18,19 +18,19 @@ use Rattle.grammar.specs.Reading.{some_token, tree, expression, reading, Fits, o
 use Rattle.grammar.proofs.Reading.{fits_few}
 use Rattle.grammar.proofs.Bounds.{print_shallow, texts_print, print_short}
 
-parse_some : (ts : List Tok) (e : Expr) → parse ts ≡ ok e → some_token ts ≡ true
+parse_some : (ts : List Tok) (e : Expr) → parse ts ≡ Ok e → some_token ts ≡ true
 unfolding parse some_token read
-parse_some [] e h = absurd (refused≢ok h)
+parse_some [] e h = absurd (err≢ok h)
 parse_some (t ∷ ts) e h = refl
 
-tree-printed : (e : Expr) → Readable e → Fits e → tree (print in_tokens e) ≡ ok (flat e)
+tree-printed : (e : Expr) → Readable e → Fits e → tree (print in_tokens e) ≡ Ok (flat e)
 unfolding tree
 tree-printed e r f =
     rw (parse_some (print in_tokens e) (flat e) (round e r), texts_print e, fits_few e f, print_shallow open_limit e f.wide (omega (arith, f.few)))
     (round e r)
 
 -- the print of a readable tree that fits reads as its flat tree
-pub printed-read : (e : Expr) → Readable e → Fits e → reading (printed e) ≡ ok (flat e)
+pub printed-read : (e : Expr) → Readable e → Fits e → reading (printed e) ≡ Ok (flat e)
 unfolding reading expression then
 printed-read e r f =
     fits text_limit (printed e) (expression (decode (printed e))) (le-leb (length (printed e)) text_limit (omega (arith, print_short e f)), (print_lexes e f.citable).valid)
@@ -39,6 +39,6 @@ printed-read e r f =
 -- two such trees print alike exactly when their flat trees are alike
 pub alike : (a b : Expr) → Readable a → Fits a → Readable b → Fits b → (printed a ≡ printed b) ↔ (flat a ≡ flat b)
 alike a b ra fa rb fb = (
-  λ h. let same : ok (flat a) ≡ ok (flat b) = sym (printed-read a ra fa) ∙ ap reading h ∙ printed-read b rb fb in cc,
+  λ h. let same : Ok (flat a) ≡ Ok (flat b) = sym (printed-read a ra fa) ∙ ap reading h ∙ printed-read b rb fb in cc,
   λ h. sym (print_flat in_bytes a fa.wide) ∙ ap printed h ∙ print_flat in_bytes b fb.wide,
 )

@@ -1,12 +1,12 @@
 -- The trees that reading yields. Assumes nothing.
-use Rattle.std.specs.Prelude.{◌≡◌, refl, List, [], ◌∷◌, Bool, true, false}
+use Rattle.std.specs.Prelude.{◌≡◌, refl, List, [], ◌∷◌, Bool, true, false, Result, Ok, Err}
 use Rattle.std.proofs.Common.{subst}
 use Rattle.std.proofs.lemmas.Bool.{false≢true}
-use Rattle.refusal.specs.Result.{Result, ok, refused}
 use Rattle.grammar.specs.Expr.{Op, And, Or, Xor, Expr, Exprs, cite, Then, join, none, more, ◌◂◌, ◌⧺◌, ◌▸◌, Some, Wide, Wides}
 use Rattle.grammar.specs.Lex.{Tok, cited, op, opening, closing}
 use Rattle.grammar.specs.Parse.{same, gather, Side, lead, chain, whole, led, grow, Left, start, after, Opens, top, within, value, read, parse}
 use Rattle.grammar.specs.Readable.{Fresh, Readable, Readables}
+use Rattle.refusal.specs.declared.Refusal.{Refusal}
 
 mutual
   pub readable_wide : (e : Expr) → Readable e → Wide e
@@ -94,9 +94,9 @@ abbrev OpensReadable : Opens → Type 0
 OpensReadable top = Unit
 OpensReadable (within l run w) = LeftReadable l × Readables run × OpensReadable w
 
-abbrev ResultReadable : Result Expr → Type 0
-ResultReadable (ok e) = Readable e
-ResultReadable (refused k) = Unit
+abbrev ResultReadable : Result Expr Refusal → Type 0
+ResultReadable (Ok e) = Readable e
+ResultReadable (Err k) = Unit
 
 value_readable : (l : Left) (run : Exprs) → LeftReadable l → Some run → Readables run → Readable (whole (value l run))
 unfolding value whole
@@ -120,6 +120,6 @@ read_readable (closing ∷ ts) l (more e es) (within l' run' w) q r v =
     (readables_more run' (whole (value l (e ◂ es))) v.1 (value_readable l (e ◂ es) q tt r)) v.2
 
 -- what parsing yields is readable
-pub parse_readable : (ts : List Tok) (e : Expr) → parse ts ≡ ok e → Readable e
+pub parse_readable : (ts : List Tok) (e : Expr) → parse ts ≡ Ok e → Readable e
 unfolding parse
 parse_readable ts e h = subst ResultReadable h (read_readable ts start none top tt tt tt)

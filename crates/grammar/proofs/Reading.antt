@@ -1,8 +1,9 @@
 -- Reading a text as an expression, with the refusals in their order. Assumes nothing.
-use Rattle.std.specs.Prelude.{◌≡◌, refl, List, true, ℕ, ◌≤◌, leb, length}
+use Rattle.std.specs.Prelude.{◌≡◌, refl, List, true, ℕ, ◌≤◌, leb, length, Result, Ok, Err}
 use Rattle.std.proofs.Common.{leb-true, le-leb}
 use Rattle.laws.specs.Tests.{and_both}
-use Rattle.refusal.specs.Result.{Result, ok, refused, then, refused≢ok, unless_ok}
+use Rattle.refusal.specs.declared.Refusal.{Refusal}
+use Rattle.refusal.specs.Result.{then, err≢ok, unless_ok}
 use Rattle.refusal.specs.declared.Refusal.TheVariants.{Empty, TooManyCitations, TooDeep}
 use Rattle.utf8.specs.Utf8.{decode, Scalars}
 use Rattle.utf8.specs.Limits.{text_limit}
@@ -28,20 +29,20 @@ unfolding few
 fits_few e f = rw (le-leb (count e) citation_limit f.few, le-leb (length (concat (citations e))) cited_limit f.small)
 
 -- what characters that were read gave
-pub gave : (cs : List ℕ) (e : Expr) → expression cs ≡ ok e → Gave cs e
+pub gave : (cs : List ℕ) (e : Expr) → expression cs ≡ Ok e → Gave cs e
 unfolding expression then tree
 gave cs e h = go (lex cs) refl h
   where
-    go : (r : Result (List Tok)) → lex cs ≡ r → then r tree ≡ ok e → Gave cs e
-    go (ok ts) q k =
+    go : (r : Result (List Tok) Refusal) → lex cs ≡ r → then r tree ≡ Ok e → Gave cs e
+    go (Ok ts) q k =
         let p = unless_ok (some_token ts) Empty _ e k in
         let p₂ = unless_ok (few (texts ts)) TooManyCitations _ e p.1 in
         let p₃ = unless_ok (shallow open_limit 0 ts) TooDeep _ e p₂.1 in
         record { toks = ts; lexed = q; limited = p₂.0; parsed = p₃.1 }
-    go (refused n) q k = absurd (refused≢ok k)
+    go (Err n) q k = absurd (err≢ok k)
 
 -- what was read is readable, and fits
-pub expression_given : (cs : List ℕ) → Scalars cs → (e : Expr) → expression cs ≡ ok e → Readable e × Fits e
+pub expression_given : (cs : List ℕ) → Scalars cs → (e : Expr) → expression cs ≡ Ok e → Readable e × Fits e
 expression_given cs s e h =
     let g = gave cs e h in
     let r = parse_readable g.toks e g.parsed in
@@ -50,12 +51,12 @@ expression_given cs s e h =
     (r, record { wide = readable_wide e r; few = f.0; small = f.1; citable = rw c (lexed_citable cs s g.toks g.lexed) })
 
 -- the characters of an admitted text
-pub reading_says : (s : List ℕ) (e : Expr) → reading s ≡ ok e → Scalars (decode s) × (expression (decode s) ≡ ok e)
+pub reading_says : (s : List ℕ) (e : Expr) → reading s ≡ Ok e → Scalars (decode s) × (expression (decode s) ≡ Ok e)
 unfolding reading
 reading_says s e h =
     let a = admitted_ok text_limit s (expression (decode s)) e h in
     ((utf8_sound s a.0.1).0, a.1)
 
 -- what a text read as is readable, and fits
-pub reading_given : (s : List ℕ) (e : Expr) → reading s ≡ ok e → Readable e × Fits e
+pub reading_given : (s : List ℕ) (e : Expr) → reading s ≡ Ok e → Readable e × Fits e
 reading_given s e h = let r = reading_says s e h in expression_given (decode s) r.0 e r.1

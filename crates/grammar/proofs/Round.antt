@@ -1,7 +1,6 @@
 -- The printed tokens of a readable tree are read as its flat tree. Assumes nothing.
-use Rattle.std.specs.Prelude.{◌≡◌, refl, List, [], ◌∷◌, ◌++◌}
+use Rattle.std.specs.Prelude.{◌≡◌, refl, List, [], ◌∷◌, ◌++◌, Ok}
 use Rattle.std.proofs.Common.{◌∙◌, ap, append_assoc, append-nil}
-use Rattle.refusal.specs.Result.{ok}
 use Rattle.grammar.specs.Expr.{Op, And, Or, Xor, Expr, Exprs, cite, Then, join, none, more, ◌◂◌, ◌⧺◌, ◌▸◌, Some, Two}
 use Rattle.grammar.proofs.Expr.{append_none, appends_assoc}
 use Rattle.grammar.specs.Lex.{Tok, op, closing}
@@ -105,7 +104,7 @@ mutual
       ∙ rw (gathered e r.0))
 
 -- the printed tokens of a readable tree are read as its flat tree
-pub round : (e : Expr) → Readable e → parse (print in_tokens e) ≡ ok (flat e)
+pub round : (e : Expr) → Readable e → parse (print in_tokens e) ≡ Ok (flat e)
 unfolding parse print bracketed read resume value whole gather flat operands ◌⧺◌
 round (cite t) r = refl
 round (Then es) r =

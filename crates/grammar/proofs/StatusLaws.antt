@@ -1,8 +1,9 @@
 -- What follows a status word is read as an expression is. Assumes nothing.
-use Rattle.std.specs.Prelude.{◌≡◌, refl, List, [], ◌∷◌, ◌++◌, true, ℕ, ◌+◌, ◌≤◌, leb, ltb, length}
+use Rattle.std.specs.Prelude.{◌≡◌, refl, List, [], ◌∷◌, ◌++◌, true, ℕ, ◌+◌, ◌≤◌, leb, ltb, length, Result, Ok, Err}
 use Rattle.std.proofs.Common.{sym, ap, ◌∙◌, subst, append_assoc, inl, arith, length-append, le-leb, leb-true}
 use Rattle.laws.specs.Tests.{cond_both}
-use Rattle.refusal.specs.Result.{Result, ok, refused, refused≢ok, map_ok, then}
+use Rattle.refusal.specs.declared.Refusal.{Refusal}
+use Rattle.refusal.specs.Result.{err≢ok, map_ok, then}
 use Rattle.utf8.specs.Utf8.{is_utf8, decode, encode, encode_char, Scalars}
 use Rattle.utf8.specs.White.{is_white}
 use Rattle.utf8.specs.Limits.{text_limit}
@@ -125,32 +126,32 @@ rest-reading s w ws l v h =
     fits text_limit (encode (joined ws)) (expression (decode (encode (joined ws)))) (le-leb (length (encode (joined ws))) text_limit short, e.0)
     ∙ ap expression e.1
 
-stated_same : (a b : StatusKind) (e f : Expr) → ◌≡◌ {A = Result Stated} (ok (stated a e)) (ok (stated b f)) → (a ≡ b) × (e ≡ f)
+stated_same : (a b : StatusKind) (e f : Expr) → ◌≡◌ {A = Result Stated Refusal} (Ok (stated a e)) (Ok (stated b f)) → (a ≡ b) × (e ≡ f)
 stated_same a b e f h = (cc, cc)
 
-alone≢stated : (a b : StatusKind) (f : Expr) → ◌≡◌ {A = Result Stated} (ok (alone a)) (ok (stated b f)) → ⊥
+alone≢stated : (a b : StatusKind) (f : Expr) → ◌≡◌ {A = Result Stated Refusal} (Ok (alone a)) (Ok (stated b f)) → ⊥
 alone≢stated a b f h = let z : ◌≡◌ {A = ℕ} 0 1 = cc in absurd (omega arith)
 
 -- what follows a status word is an expression that a text reads as
-pub status_states : (s : List ℕ) (k : StatusKind) (e : Expr) → status_reading s ≡ ok (stated k e) → States s k e
+pub status_states : (s : List ℕ) (k : StatusKind) (e : Expr) → status_reading s ≡ Ok (stated k e) → States s k e
 unfolding status_reading of_words after_word map_ok then
 status_states s k e h =
     let a = admitted_ok text_limit s (of_words (words (decode s))) (stated k e) h in
     split (words (decode s)) refl a.0.0 a.0.1 a.1
   where
-    read : (w v : List ℕ) (ws : List (List ℕ)) (j : StatusKind) → words (decode s) ≡ w ∷ v ∷ ws → kind_of_word (encode w) ≡ ok j → leb (length s) text_limit ≡ true → is_utf8 s ≡ true
-        → (r : Result Expr) → expression (joined (v ∷ ws)) ≡ r → map_ok (stated j) r ≡ ok (stated k e) → States s k e
-    read w v ws j q m l u (ok f) i g =
+    read : (w v : List ℕ) (ws : List (List ℕ)) (j : StatusKind) → words (decode s) ≡ w ∷ v ∷ ws → kind_of_word (encode w) ≡ Ok j → leb (length s) text_limit ≡ true → is_utf8 s ≡ true
+        → (r : Result Expr Refusal) → expression (joined (v ∷ ws)) ≡ r → map_ok (stated j) r ≡ Ok (stated k e) → States s k e
+    read w v ws j q m l u (Ok f) i g =
         let same = stated_same j k f e g in
-        record { word = w; rest = v ∷ ws; split = q; known = m ∙ ap ok same.0; reads = rest-reading s w (v ∷ ws) l u q ∙ i ∙ ap ok same.1 }
-    read w v ws j q m l u (refused n) i g = absurd (refused≢ok g)
+        record { word = w; rest = v ∷ ws; split = q; known = m ∙ ap Ok same.0; reads = rest-reading s w (v ∷ ws) l u q ∙ i ∙ ap Ok same.1 }
+    read w v ws j q m l u (Err n) i g = absurd (err≢ok g)
 
     known : (w : List ℕ) (ws : List (List ℕ)) → words (decode s) ≡ w ∷ ws → leb (length s) text_limit ≡ true → is_utf8 s ≡ true
-        → (o : Result StatusKind) → kind_of_word (encode w) ≡ o → then o (λ j. after_word j ws) ≡ ok (stated k e) → States s k e
-    known w ws q l u (refused n) m g = absurd (refused≢ok g)
-    known w [] q l u (ok j) m g = absurd (alone≢stated j k e g)
-    known w (v ∷ ws) q l u (ok j) m g = read w v ws j q m l u (expression (joined (v ∷ ws))) refl g
+        → (o : Result StatusKind Refusal) → kind_of_word (encode w) ≡ o → then o (λ j. after_word j ws) ≡ Ok (stated k e) → States s k e
+    known w ws q l u (Err n) m g = absurd (err≢ok g)
+    known w [] q l u (Ok j) m g = absurd (alone≢stated j k e g)
+    known w (v ∷ ws) q l u (Ok j) m g = read w v ws j q m l u (expression (joined (v ∷ ws))) refl g
 
-    split : (ws : List (List ℕ)) → words (decode s) ≡ ws → leb (length s) text_limit ≡ true → is_utf8 s ≡ true → of_words ws ≡ ok (stated k e) → States s k e
-    split [] q l u g = absurd (refused≢ok g)
+    split : (ws : List (List ℕ)) → words (decode s) ≡ ws → leb (length s) text_limit ≡ true → is_utf8 s ≡ true → of_words ws ≡ Ok (stated k e) → States s k e
+    split [] q l u g = absurd (err≢ok g)
     split (w ∷ ws) q l u g = known w ws q l u (kind_of_word (encode w)) refl g

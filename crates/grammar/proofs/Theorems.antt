@@ -1,7 +1,6 @@
 -- What holds of reading, printing, flat trees and tree bytes. Assumes nothing.
-use Rattle.std.specs.Prelude.{◌≡◌, List, ◌↔◌, true, ℕ, ◌+◌, ◌*◌, ◌≤◌, length}
+use Rattle.std.specs.Prelude.{◌≡◌, List, ◌↔◌, true, ℕ, ◌+◌, ◌*◌, ◌≤◌, length, Ok, Err}
 use Rattle.std.proofs.Common.{sym, ap, ◌∙◌, arith}
-use Rattle.refusal.specs.Result.{ok, refuse}
 use Rattle.refusal.specs.declared.Refusal.TheVariants.{Empty}
 use Rattle.utf8.specs.Utf8.{decode}
 use Rattle.grammar.specs.Expr.{Expr, citations, count, concat}
@@ -41,11 +40,11 @@ pub print_short : (e : Expr) → Fits e → length (printed e) ≤ print_limit
 print_short = bounds.print_short
 
 -- a print is at most 254 parentheses deep
-pub print_shallow : (e : Expr) → Fits e → (lex (decode (printed e)) ≡ ok (print in_tokens e)) × (shallow 254 0 (print in_tokens e) ≡ true)
+pub print_shallow : (e : Expr) → Fits e → (lex (decode (printed e)) ≡ Ok (print in_tokens e)) × (shallow 254 0 (print in_tokens e) ≡ true)
 print_shallow e f = (print_lexed e f.citable, bounds.print_shallow 254 e f.wide (omega (arith, f.few)))
 
 -- the bytes of an expression are a tree, and determine it
-pub tree_of_bytes : (e : Expr) → Fits e → tree_of (bytes_of e) ≡ ok e
+pub tree_of_bytes : (e : Expr) → Fits e → tree_of (bytes_of e) ≡ Ok e
 tree_of_bytes = trees.tree_of_bytes
 
 -- the bytes of an expression pass the test
@@ -53,11 +52,11 @@ pub is_tree_lem : (e : Expr) → Fits e → is_tree (bytes_of e) ≡ true
 is_tree_lem = trees.is_tree_lem
 
 -- what bytes are a tree of, they are the bytes of, and it fits
-pub tree_is_bytes : (b : List ℕ) → IsBytes b → (e : Expr) → tree_of b ≡ ok e → (bytes_of e ≡ b) × Fits e
+pub tree_is_bytes : (b : List ℕ) → IsBytes b → (e : Expr) → tree_of b ≡ Ok e → (bytes_of e ≡ b) × Fits e
 tree_is_bytes = trees.tree_is_bytes
 
 -- bytes are a tree of an expression exactly if it fits and they are its bytes: the encoder and the limits say what a tree is
-pub tree_exactly : (b : List ℕ) → IsBytes b → (e : Expr) → (tree_of b ≡ ok e) ↔ (Fits e × (bytes_of e ≡ b))
+pub tree_exactly : (b : List ℕ) → IsBytes b → (e : Expr) → (tree_of b ≡ Ok e) ↔ (Fits e × (bytes_of e ≡ b))
 tree_exactly b i e = (
   λ h. let t = tree_is_bytes b i e h in (t.1, t.0),
   λ h. ap tree_of (sym h.1) ∙ tree_of_bytes e h.0,
@@ -77,7 +76,7 @@ few_bytes = sizes.few_bytes
 
 -- expressions with the same bytes are the same
 pub bytes_alike : (a b : Expr) → Fits a → Fits b → bytes_of a ≡ bytes_of b → a ≡ b
-bytes_alike a b fa fb h = let same : ok a ≡ ok b = sym (tree_of_bytes a fa) ∙ ap tree_of h ∙ tree_of_bytes b fb in cc
+bytes_alike a b fa fb h = let same : Ok a ≡ Ok b = sym (tree_of_bytes a fa) ∙ ap tree_of h ∙ tree_of_bytes b fb in cc
 
 -- a tree is the bytes of exactly one expression that fits
 pub tree_of_one : (b : List ℕ) → IsBytes b → is_tree b ≡ true
@@ -87,7 +86,7 @@ tree_of_one b i h =
     (s.expr, s.fits, s.bytes, λ f k g. bytes_alike f s.expr k s.fits (g ∙ sym s.bytes))
 
 -- what follows a status word is read as an expression is
-pub was_reading : (e : Expr) → WasRead e → (s : List ℕ) × (reading s ≡ ok e)
+pub was_reading : (e : Expr) → WasRead e → (s : List ℕ) × (reading s ≡ Ok e)
 was_reading e (as_expression s f h) = (s, h)
 was_reading e (after_status s k f h) = let w = status_states s k f h in (_, w.reads)
 
@@ -100,7 +99,7 @@ pub read_fits : (e : Expr) → WasRead e → Fits e
 read_fits e w = let r = was_reading e w in (reading_given r.0 e r.1).1
 
 -- the print of what was read reads as its flat tree
-pub read-printed : (e : Expr) → WasRead e → reading (printed e) ≡ ok (flat e)
+pub read-printed : (e : Expr) → WasRead e → reading (printed e) ≡ Ok (flat e)
 read-printed e w = printed-read e (read_readable e w) (read_fits e w)
 
 -- prints of what was read are alike exactly when the bytes of the flat trees are
@@ -112,5 +111,5 @@ printed_alike a b v w =
     )
 
 -- a status is never turned back with 6
-pub status_never_empty : (s : List ℕ) → status_reading s ≡ refuse Empty → ⊥
+pub status_never_empty : (s : List ℕ) → status_reading s ≡ Err Empty → ⊥
 status_never_empty = never.status_never_empty

@@ -1,10 +1,10 @@
 -- Bytes are a tree exactly if they are the bytes of an expression that fits. Assumes nothing.
-use Rattle.std.specs.Prelude.{◌≡◌, refl, List, [], ◌∷◌, ◌++◌, true, ◌&&◌, ℕ, ◌+◌, ◌-◌, ◌*◌, ◌≤◌, length, drop}
+use Rattle.std.specs.Prelude.{◌≡◌, refl, List, [], ◌∷◌, ◌++◌, true, ◌&&◌, ℕ, ◌+◌, ◌-◌, ◌*◌, ◌≤◌, length, drop, Ok}
 use Rattle.std.proofs.Common.{sym, ap, ◌∙◌, subst, append_assoc, append-nil, arith, length-append, drop-drop, le-leb, eq-eqb}
 use Rattle.std.proofs.Math.Seq.{drop-append_seam}
 use store.Seg.{eqb_same}
 use Rattle.laws.specs.Tests.{and_both}
-use Rattle.refusal.specs.Result.{ok, unless_ok}
+use Rattle.refusal.specs.Result.{unless_ok}
 use Rattle.refusal.specs.declared.Refusal.TheVariants.{NotATree}
 use Rattle.grammar.specs.Expr.{Expr, Exprs, none, more, ◌◂◌, ◌⧺◌, Wide, Wides, concat, citations, citations_of, count}
 use Rattle.grammar.specs.Citable.{AllCitable}
@@ -120,7 +120,7 @@ unfolding tree_at first
 root_of b e r t = rw (forest_all b, r, t, built e)
 
 -- the bytes of an expression determine it
-pub tree_of_bytes : (e : Expr) → Fits e → tree_of (bytes_of e) ≡ ok e
+pub tree_of_bytes : (e : Expr) → Fits e → tree_of (bytes_of e) ≡ Ok e
 unfolding tree_of
 tree_of_bytes e f = let r = bytes_read e f in rw (is_tree_lem e f, root_of (bytes_of e) e r.rowed r.texted)
 
@@ -219,13 +219,13 @@ sound b i h =
       small = rw r.cited u.1;
       citable = rw r.cited u.2;
     } in
-    record { expr = r.root; fits = f; bytes = bytes; tree = subst (λ x. tree_of x ≡ ok r.root) bytes (tree_of_bytes r.root f) }
+    record { expr = r.root; fits = f; bytes = bytes; tree = subst (λ x. tree_of x ≡ Ok r.root) bytes (tree_of_bytes r.root f) }
 
 -- what bytes are a tree of, they are the bytes of, and it fits
-pub tree_is_bytes : (b : List ℕ) → IsBytes b → (e : Expr) → tree_of b ≡ ok e → (bytes_of e ≡ b) × Fits e
+pub tree_is_bytes : (b : List ℕ) → IsBytes b → (e : Expr) → tree_of b ≡ Ok e → (bytes_of e ≡ b) × Fits e
 unfolding tree_of
 tree_is_bytes b i e h =
-    let t = unless_ok (is_tree b) NotATree (ok (tree_at b 0)) e h in
+    let t = unless_ok (is_tree b) NotATree (Ok (tree_at b 0)) e h in
     let s = sound b i t.0 in
     let same : s.expr ≡ e = ok_same s.expr e (sym s.tree ∙ h) in
     (subst (λ x. bytes_of x ≡ b) same s.bytes, subst Fits same s.fits)

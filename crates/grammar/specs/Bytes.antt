@@ -1,6 +1,7 @@
 -- The tree as bytes: header, node rows, citation rows, texts. Assumes nothing.
-use Rattle.std.specs.Prelude.{List, [], ◌∷◌, ◌++◌, Bool, ◌&&◌, ℕ, zero, suc, ◌+◌, ◌-◌, ◌*◌, ◌/◌, ◌%◌, eqb, leb, ltb, length, get_or, take, drop}
-use Rattle.refusal.specs.Result.{Result, ok, unless}
+use Rattle.std.specs.Prelude.{List, [], ◌∷◌, ◌++◌, Bool, ◌&&◌, ℕ, zero, suc, ◌+◌, ◌-◌, ◌*◌, ◌/◌, ◌%◌, eqb, leb, ltb, length, get_or, take, drop, Result, Ok}
+use Rattle.refusal.specs.declared.Refusal.{Refusal}
+use Rattle.refusal.specs.Result.{unless}
 use Rattle.refusal.specs.declared.Refusal.TheVariants.{NotATree}
 use Rattle.grammar.specs.Expr.{Expr, Exprs, concat, citations}
 use Rattle.grammar.specs.Citable.{citable}
@@ -154,5 +155,5 @@ unfoldable pub tree_at : List ℕ → ℕ → Expr
 tree_at b i = first (forest_at b i)
 
 -- the expression whose bytes these are
-unfoldable pub tree_of : List ℕ → Result Expr
-tree_of b = unless (is_tree b) NotATree (ok (tree_at b 0))
+unfoldable pub tree_of : List ℕ → Result Expr Refusal
+tree_of b = unless (is_tree b) NotATree (Ok (tree_at b 0))

@@ -1,6 +1,7 @@
 -- From characters to tokens. Assumes nothing.
-use Rattle.std.specs.Prelude.{List, [], ◌∷◌, ◌++◌, Bool, true, false, cond, ◌&&◌, ℕ, eqb}
-use Rattle.refusal.specs.Result.{Result, ok, refuse, map_ok}
+use Rattle.std.specs.Prelude.{List, [], ◌∷◌, ◌++◌, Bool, true, false, cond, ◌&&◌, ℕ, eqb, Result, Ok, Err}
+use Rattle.refusal.specs.declared.Refusal.{Refusal}
+use Rattle.refusal.specs.Result.{map_ok}
 use Rattle.refusal.specs.declared.Refusal.TheVariants.{Stray, Unterminated, EmptyCondition}
 use Rattle.utf8.specs.Utf8.{encode}
 use Rattle.utf8.specs.White.{is_white}
@@ -61,32 +62,32 @@ part c =
     (cond (is_white c) space stray))))))
 
 -- one token before the others
-abbrev pub also : Tok → Result (List Tok) → Result (List Tok)
+abbrev pub also : Tok → Result (List Tok) Refusal → Result (List Tok) Refusal
 also t r = map_ok (λ ts. t ∷ ts) r
 
 -- a character outside a citation: `within` is what comes of the rest inside one, `rest` what comes of it outside
-unfoldable pub outer : Part → (within rest : Result (List Tok)) → Result (List Tok)
+unfoldable pub outer : Part → (within rest : Result (List Tok) Refusal) → Result (List Tok) Refusal
 outer bracket within rest = within
 outer (sign o) within rest = also (op o) rest
 outer left within rest = also opening rest
 outer right within rest = also closing rest
 outer space within rest = rest
-outer stray within rest = refuse Stray
+outer stray within rest = Err Stray
 
 -- a character inside a citation that has the characters t so far; the test says that it is `]`
-unfoldable pub inner : Bool → List ℕ → (within rest : Result (List Tok)) → Result (List Tok)
-inner true t within rest = cond (blank t) (refuse EmptyCondition) (also (cited (encode t)) rest)
+unfoldable pub inner : Bool → List ℕ → (within rest : Result (List Tok) Refusal) → Result (List Tok) Refusal
+inner true t within rest = cond (blank t) (Err EmptyCondition) (also (cited (encode t)) rest)
 inner false t within rest = within
 
 unfoldable mutual
   -- the tokens of characters, or the leftmost of the refusals 1, 2, 3
-  pub lex : List ℕ → Result (List Tok)
-  lex [] = ok []
+  pub lex : List ℕ → Result (List Tok) Refusal
+  lex [] = Ok []
   lex (c ∷ cs) = let within = inside [] cs in let rest = lex cs in outer (part c) within rest
 
   -- the same inside a citation that has the characters t so far
-  pub inside : List ℕ → List ℕ → Result (List Tok)
-  inside t [] = refuse Unterminated
+  pub inside : List ℕ → List ℕ → Result (List Tok) Refusal
+  inside t [] = Err Unterminated
   inside t (c ∷ cs) = let within = inside (t ++ (c ∷ [])) cs in let rest = lex cs in inner (eqb c cite_end) t within rest
 
 -- the texts that tokens cite, in order

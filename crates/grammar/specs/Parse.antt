@@ -1,6 +1,6 @@
 -- From tokens to an expression. Assumes nothing.
-use Rattle.std.specs.Prelude.{List, [], ◌∷◌, Bool, true, false, cond}
-use Rattle.refusal.specs.Result.{Result, ok, refuse}
+use Rattle.std.specs.Prelude.{List, [], ◌∷◌, Bool, true, false, cond, Result, Ok, Err}
+use Rattle.refusal.specs.declared.Refusal.{Refusal}
 use Rattle.refusal.specs.declared.Refusal.TheVariants.{MissingOperand, Parentheses}
 use Rattle.grammar.specs.Expr.{Op, And, Or, Xor, Expr, Exprs, cite, Then, join, none, more, ◌◂◌, ◌▸◌}
 use Rattle.grammar.specs.Lex.{Tok, cited, op, opening, closing}
@@ -60,18 +60,18 @@ value start run = lead (gather run)
 value (after s o) run = grow s o (gather run)
 
 -- the expression of tokens, or the first met of the refusals 4 and 5; while the run is empty, an operand is due
-unfoldable pub read : List Tok → Left → Exprs → Opens → Result Expr
-read [] l none w = refuse MissingOperand
-read [] l (more e es) top = ok (whole (value l (e ◂ es)))
-read [] l (more e es) (within l' run' w) = refuse Parentheses
+unfoldable pub read : List Tok → Left → Exprs → Opens → Result Expr Refusal
+read [] l none w = Err MissingOperand
+read [] l (more e es) top = Ok (whole (value l (e ◂ es)))
+read [] l (more e es) (within l' run' w) = Err Parentheses
 read (cited t ∷ ts) l run w = read ts l (run ▸ cite t) w
 read (opening ∷ ts) l run w = read ts start none (within l run w)
-read (op o ∷ ts) l none w = refuse MissingOperand
+read (op o ∷ ts) l none w = Err MissingOperand
 read (op o ∷ ts) l (more e es) w = read ts (after (value l (e ◂ es)) o) none w
-read (closing ∷ ts) l none w = refuse MissingOperand
-read (closing ∷ ts) l (more e es) top = refuse Parentheses
+read (closing ∷ ts) l none w = Err MissingOperand
+read (closing ∷ ts) l (more e es) top = Err Parentheses
 read (closing ∷ ts) l (more e es) (within l' run' w) = read ts l' (run' ▸ whole (value l (e ◂ es))) w
 
 -- the expression of all tokens
-unfoldable pub parse : List Tok → Result Expr
+unfoldable pub parse : List Tok → Result Expr Refusal
 parse ts = read ts start none top

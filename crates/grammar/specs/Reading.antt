@@ -1,6 +1,7 @@
 -- Reading a text as an expression, with the refusals in their order. Assumes nothing.
-use Rattle.std.specs.Prelude.{◌≡◌, List, [], ◌∷◌, Bool, true, false, ◌&&◌, ℕ, suc, pred, ◌+◌, ◌-◌, ◌*◌, ◌≤◌, leb, ltb, length}
-use Rattle.refusal.specs.Result.{Result, ok, unless, then}
+use Rattle.std.specs.Prelude.{◌≡◌, List, [], ◌∷◌, Bool, true, false, ◌&&◌, ℕ, suc, pred, ◌+◌, ◌-◌, ◌*◌, ◌≤◌, leb, ltb, length, Result, Ok}
+use Rattle.refusal.specs.declared.Refusal.{Refusal}
+use Rattle.refusal.specs.Result.{unless, then}
 use Rattle.refusal.specs.declared.Refusal.TheVariants.{Empty, TooManyCitations, TooDeep}
 use Rattle.utf8.specs.Utf8.{decode}
 use Rattle.utf8.specs.Limits.{text_limit, admitted}
@@ -47,15 +48,15 @@ shallow most n (opening ∷ ts) = ltb n most && shallow most (suc n) ts
 shallow most n (closing ∷ ts) = shallow most (pred n) ts
 
 -- the expression of tokens: 6, 12, 13, then the first met of 4 and 5
-unfoldable pub tree : List Tok → Result Expr
+unfoldable pub tree : List Tok → Result Expr Refusal
 tree ts = unless (some_token ts) Empty (unless (few (texts ts)) TooManyCitations (unless (shallow open_limit 0 ts) TooDeep (parse ts)))
 
 -- the expression of characters: the leftmost of 1, 2, 3 first
-unfoldable pub expression : List ℕ → Result Expr
+unfoldable pub expression : List ℕ → Result Expr Refusal
 expression cs = then (lex cs) tree
 
 -- the expression that a text reads as: 10 and 11 first
-unfoldable pub reading : List ℕ → Result Expr
+unfoldable pub reading : List ℕ → Result Expr Refusal
 reading s = admitted text_limit s (expression (decode s))
 
 -- the expressions that have tree bytes: two operands or more in inner nodes, citable texts, not too many and not too long
@@ -68,6 +69,6 @@ pub record Fits (e : Expr) : Type 0 where
 -- what characters that were read gave
 pub record Gave (cs : List ℕ) (e : Expr) : Type 0 where
   pub toks : List Tok
-  pub lexed : lex cs ≡ ok toks
+  pub lexed : lex cs ≡ Ok toks
   pub limited : few (texts toks) ≡ true
-  pub parsed : parse toks ≡ ok e
+  pub parsed : parse toks ≡ Ok e

@@ -1,6 +1,5 @@
 -- Operands, runs of them and what operators link to them, in tokens (docs/FORMAT.md, 'Texts'). The theorems stand in proofs/Sentences. Assumes nothing.
-use Rattle.std.specs.Prelude.{◌≡◌, List, [], ◌∷◌, ◌++◌, ℕ}
-use Rattle.refusal.specs.Result.{ok}
+use Rattle.std.specs.Prelude.{◌≡◌, List, [], ◌∷◌, ◌++◌, ℕ, Ok}
 use Rattle.grammar.specs.Expr.{Op, Expr, Exprs, cite, none, ◌◂◌, ◌▸◌}
 use Rattle.grammar.specs.Lex.{Tok, cited, op, opening, closing}
 use Rattle.grammar.specs.Parse.{gather, parse}
@@ -12,7 +11,7 @@ group ts = opening ∷ (ts ++ (closing ∷ []))
 -- tokens that are one operand, with its expression: a citation, or tokens that parse, in parentheses
 pub data Operand : List Tok → Expr → Type 0 where
   citation : (t : List ℕ) → Operand (cited t ∷ []) (cite t)
-  grouped : (ts : List Tok) (e : Expr) → parse ts ≡ ok e → Operand (group ts) e
+  grouped : (ts : List Tok) (e : Expr) → parse ts ≡ Ok e → Operand (group ts) e
 
 -- tokens that are juxtaposed operands
 pub data Run : List Tok → Exprs → Type 0 where

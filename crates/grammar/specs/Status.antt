@@ -1,6 +1,7 @@
 -- Reading a status: a status word, and the expression after it. Assumes nothing.
-use Rattle.std.specs.Prelude.{List, [], ◌∷◌, ◌++◌, cond, ℕ}
-use Rattle.refusal.specs.Result.{Result, ok, refuse, map_ok, then}
+use Rattle.std.specs.Prelude.{List, [], ◌∷◌, ◌++◌, cond, ℕ, Result, Ok, Err}
+use Rattle.refusal.specs.declared.Refusal.{Refusal}
+use Rattle.refusal.specs.Result.{map_ok, then}
 use Rattle.refusal.specs.declared.Refusal.TheVariants.{NoStatusWord}
 use Rattle.utf8.specs.Utf8.{decode, encode}
 use Rattle.utf8.specs.White.{is_white}
@@ -41,15 +42,15 @@ pub data Stated : Type 0 where
   stated : StatusKind → Expr → Stated
 
 -- the words after a status word, joined and read as an expression; none are an answer without a tree
-unfoldable pub after_word : StatusKind → List (List ℕ) → Result Stated
-after_word k [] = ok (alone k)
+unfoldable pub after_word : StatusKind → List (List ℕ) → Result Stated Refusal
+after_word k [] = Ok (alone k)
 after_word k (w ∷ ws) = map_ok (stated k) (expression (joined (w ∷ ws)))
 
 -- the status of words: the first is the status word, or 9
-unfoldable pub of_words : List (List ℕ) → Result Stated
-of_words [] = refuse NoStatusWord
+unfoldable pub of_words : List (List ℕ) → Result Stated Refusal
+of_words [] = Err NoStatusWord
 of_words (w ∷ ws) = then (kind_of_word (encode w)) (λ k. after_word k ws)
 
 -- the status that a text reads as: 10 and 11 on the text as given, then 9, then as its other words read
-unfoldable pub status_reading : List ℕ → Result Stated
+unfoldable pub status_reading : List ℕ → Result Stated Refusal
 status_reading s = admitted text_limit s (of_words (words (decode s)))

@@ -1,6 +1,5 @@
 -- What a text states after a status word. The theorems stand in proofs/StatusLaws. Assumes nothing.
-use Rattle.std.specs.Prelude.{◌≡◌, List, ◌∷◌, ℕ}
-use Rattle.refusal.specs.Result.{ok}
+use Rattle.std.specs.Prelude.{◌≡◌, List, ◌∷◌, ℕ, Ok}
 use Rattle.utf8.specs.Utf8.{decode, encode}
 use Rattle.status.specs.declared.StatusKind.{StatusKind}
 use Rattle.status.specs.Status.{kind_of_word}
@@ -13,5 +12,5 @@ pub record States (s : List ℕ) (k : StatusKind) (e : Expr) : Type 0 where
   pub word : List ℕ
   pub rest : List (List ℕ)
   pub split : words (decode s) ≡ word ∷ rest
-  pub known : kind_of_word (encode word) ≡ ok k
-  pub reads : reading (encode (joined rest)) ≡ ok e
+  pub known : kind_of_word (encode word) ≡ Ok k
+  pub reads : reading (encode (joined rest)) ≡ Ok e

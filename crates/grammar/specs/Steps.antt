@@ -1,6 +1,6 @@
 -- How reading goes on where a run of operands ends, and inside parentheses. The theorems stand in proofs/Steps. Assumes nothing.
-use Rattle.std.specs.Prelude.{◌≡◌, List, [], ◌∷◌, ◌++◌}
-use Rattle.refusal.specs.Result.{Result, ok, refuse}
+use Rattle.std.specs.Prelude.{◌≡◌, List, [], ◌∷◌, ◌++◌, Result, Ok, Err}
+use Rattle.refusal.specs.declared.Refusal.{Refusal}
 use Rattle.refusal.specs.declared.Refusal.TheVariants.{MissingOperand, Parentheses}
 use Rattle.grammar.specs.Expr.{Expr, Exprs, none, ◌▸◌}
 use Rattle.grammar.specs.Lex.{Tok, cited, op, opening, closing}
@@ -15,13 +15,13 @@ Ends (opening ∷ ts) = ⊥
 Ends (closing ∷ ts) = Unit
 
 -- how reading goes on where a run ends, after the side s inside the open parentheses w
-unfoldable pub resume : List Tok → Side → Opens → Result Expr
-resume [] s top = ok (whole s)
-resume [] s (within l run w) = refuse Parentheses
-resume (cited t ∷ ts) s w = refuse MissingOperand
+unfoldable pub resume : List Tok → Side → Opens → Result Expr Refusal
+resume [] s top = Ok (whole s)
+resume [] s (within l run w) = Err Parentheses
+resume (cited t ∷ ts) s w = Err MissingOperand
 resume (op o ∷ ts) s w = read ts (after s o) none w
-resume (opening ∷ ts) s w = refuse MissingOperand
-resume (closing ∷ ts) s top = refuse Parentheses
+resume (opening ∷ ts) s w = Err MissingOperand
+resume (closing ∷ ts) s top = Err Parentheses
 resume (closing ∷ ts) s (within l run w) = read ts l (run ▸ whole s) w
 
 -- the open parentheses of the first inside those of the second

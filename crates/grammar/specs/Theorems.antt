@@ -1,6 +1,5 @@
 -- Which expressions some text was read to. What holds of them stands in proofs/Theorems. Assumes nothing.
-use Rattle.std.specs.Prelude.{◌≡◌, List, ℕ}
-use Rattle.refusal.specs.Result.{ok}
+use Rattle.std.specs.Prelude.{◌≡◌, List, ℕ, Ok}
 use Rattle.status.specs.declared.StatusKind.{StatusKind}
 use Rattle.grammar.specs.Expr.{Expr}
 use Rattle.grammar.specs.Reading.{reading}
@@ -10,5 +9,5 @@ use Rattle.grammar.specs.Status.{stated, status_reading}
 
 -- some text was read and gave the expression
 pub data WasRead : Expr → Type 0 where
-  as_expression : (s : List ℕ) (e : Expr) → reading s ≡ ok e → WasRead e
-  after_status : (s : List ℕ) (k : StatusKind) (e : Expr) → status_reading s ≡ ok (stated k e) → WasRead e
+  as_expression : (s : List ℕ) (e : Expr) → reading s ≡ Ok e → WasRead e
+  after_status : (s : List ℕ) (k : StatusKind) (e : Expr) → status_reading s ≡ Ok (stated k e) → WasRead e

@@ -1,8 +1,7 @@
 -- What bytes have that pass the test for a tree. That they are those of an expression that fits stands in proofs/Trees. Assumes nothing.
-use Rattle.std.specs.Prelude.{◌≡◌, List, true, ◌&&◌, ℕ, ◌+◌, ◌≤◌, eqb, leb, length, drop}
+use Rattle.std.specs.Prelude.{◌≡◌, List, true, ◌&&◌, ℕ, ◌+◌, ◌≤◌, eqb, leb, length, drop, Ok}
 use Rattle.std.proofs.Common.{eqb-true, leb-true}
 use Rattle.laws.specs.Tests.{and_both}
-use Rattle.refusal.specs.Result.{ok}
 use Rattle.grammar.specs.Expr.{Expr, Exprs, none, ◌◂◌, Wide, citations}
 use Rattle.grammar.specs.Reading.{citation_limit, cited_limit, Fits}
 use Rattle.grammar.specs.Rows.{Row, rows}
@@ -91,4 +90,4 @@ pub record Sound (b : List ℕ) : Type 0 where
   pub expr : Expr
   pub fits : Fits expr
   pub bytes : bytes_of expr ≡ b
-  pub tree : tree_of b ≡ ok expr
+  pub tree : tree_of b ≡ Ok expr

@@ -165,6 +165,10 @@ module _ {s old out : List ℕ} {from at n : ℕ} (h : Joining s from old out at
   word_size : end - at ≡ length (encode word)
   word_size = omega (arith, e)
 
+  -- the word's bytes
+  word_long : length (take (end - at) (drop at s)) ≡ end - at
+  word_long = ap (λ (k : ℕ). length (take k (drop at s))) word_size ∙ ap length (run-passed false s at h.room h.well).bytes ∙ sym word_size
+
   word-ended : ended word ≡ word ∷ []
   word-ended = ended_some word (omega (arith, word_size, word-later))
 
@@ -178,8 +182,8 @@ module _ {s old out : List ℕ} {from at n : ℕ} (h : Joining s from old out at
   words_on = word_split (decode (drop at s)) ∙ ap (λ (x : List (List ℕ)). x ++ words rest) word-ended
 
   -- the next begins at q
-  module _ (q : ℕ) (f : q ≡ run_end true s end) (to : ℕ) (spaced-out out' : List ℕ) (v : Appended (gap n) n out spaced-out to)
-      (w : Appended (take (end - at) (drop at s)) to spaced-out out' (to + (end - at))) where
+  module _ (q : ℕ) (f : q ≡ run_end true s end) (to m : ℕ) (spaced-out out' : List ℕ) (v : Appended (gap n) n out spaced-out to)
+      (w : Appended (take (end - at) (drop at s)) to spaced-out out' m) where
     abbrev g : to ≡ n + length (gap n)
     g = v.ends
 
@@ -199,16 +203,19 @@ module _ {s old out : List ℕ} {from at n : ℕ} (h : Joining s from old out at
     all : (encode (joined h.done) ++ gap n) ++ encode word ≡ encode (joined (h.done ++ (word ∷ [])))
     all = sym (join_more n h.done word (joined_size h.written) h.none)
 
-    pub joining_on : Joining s from old out' q (to + (end - at))
+    m-is : m ≡ to + (end - at)
+    m-is = omega (arith, w.ends, word_long)
+
+    pub joining_on : Joining s from old out' q m
     joining_on = record {
       done = h.done ++ (word ∷ []);
       later = omega (arith, h.later, word-later, f);
       room = omega (arith, f, next.room);
       well = ap (λ (k : ℕ). is_utf8 (drop k s)) f ∙ next.well;
       stop = ap (leading true) next_left ∙ trail_stop true (decode (drop end s));
-      less = omega (arith, word_fits, g, f);
-      apart = λ _ k. omega (arith, word_fits, g, next-later k);
-      none = λ z. absurd (omega (arith, g, z, word-later));
+      less = omega (arith, word_fits, g, f, m-is);
+      apart = λ _ k. omega (arith, word_fits, g, m-is, next-later k);
+      none = λ z. absurd (omega (arith, m-is, z, word-later));
       written = appends.same (ap (λ (x : List ℕ). (encode (joined h.done) ++ gap n) ++ x) bytes_on ∙ all) (appends.both (appends.both h.written v) w);
       goes =
           h.goes

@@ -1,4 +1,5 @@
 -- The tests before parsing, on counts and on tokens. Assumes nothing.
+use Rattle.std.specs.Prelude.{Result, Ok, Err}
 use Prim.Native.Nat.{ℕ, suc, pred, ◌+◌, ◌≤◌, ◌<◌}
 use mathlib.Core.Path.{◌≡◌, refl, sym, ap, ◌∙◌}
 use mathlib.Core.Bool.{Bool, true, false, cond, ◌&&◌}
@@ -8,7 +9,7 @@ use native.Mathlib.Numerals.{add-one}
 use lib.Dec.{eqb, leb, ltb}
 use lib.ListN.{length}
 use borrow.Author.Tests.{eq-eqb, ne_eqb, le-leb, lt-leb, lt-ltb, le-ltb, ltb-true, ltb-false}
-use Rattle.refusal.specs.Result.{Result, ok, refused, refuse, unless, map_ok, then}
+use Rattle.refusal.specs.Result.{unless, map_ok, then}
 use Rattle.refusal.specs.declared.Refusal.{Refusal}
 use Rattle.refusal.specs.declared.Refusal.TheVariants.{Empty, TooManyCitations, TooDeep}
 use Rattle.grammar.specs.Expr.{Op, And, Or, Xor, concat}
@@ -94,7 +95,7 @@ shallow-depth d (opening ∷ ts) h = rw (depth_by d (suc d) opening ts (opens d 
 
 -- the tests on counts, by what was found
 module _ (p : Count) where
-  pub none_counted : p.tokens ≡ 0 → refuse Empty ≡ counts_limited p
+  pub none_counted : p.tokens ≡ 0 → Err Empty ≡ counts_limited p
   unfolding counts_limited
   none_counted h = rw h
 
@@ -105,19 +106,19 @@ module _ (p : Count) where
         go : (n : ℕ) → (n ≡ 0 → ⊥) → 0 < n
         go n k = omega arith
 
-    pub many-counted : citation_limit < p.cites → refuse TooManyCitations ≡ counts_limited p
+    pub many-counted : citation_limit < p.cites → Err TooManyCitations ≡ counts_limited p
     unfolding counts_limited
     many-counted k = rw (some, lt-leb p.cites citation_limit k)
 
-    pub large_counted : p.cites ≤ citation_limit → cited_limit < p.bytes → refuse TooManyCitations ≡ counts_limited p
+    pub large_counted : p.cites ≤ citation_limit → cited_limit < p.bytes → Err TooManyCitations ≡ counts_limited p
     unfolding counts_limited
     large_counted k l = rw (some, le-leb p.cites citation_limit k, lt-leb p.bytes cited_limit l)
 
-    pub deep_counted : p.cites ≤ citation_limit → p.bytes ≤ cited_limit → open_limit < p.depth → refuse TooDeep ≡ counts_limited p
+    pub deep_counted : p.cites ≤ citation_limit → p.bytes ≤ cited_limit → open_limit < p.depth → Err TooDeep ≡ counts_limited p
     unfolding counts_limited
     deep_counted k l m = rw (some, le-leb p.cites citation_limit k, le-leb p.bytes cited_limit l, lt-leb p.depth open_limit m)
 
-    pub all-counted : p.cites ≤ citation_limit → p.bytes ≤ cited_limit → p.depth ≤ open_limit → ok (p.tokens, p.cites, p.bytes) ≡ counts_limited p
+    pub all-counted : p.cites ≤ citation_limit → p.bytes ≤ cited_limit → p.depth ≤ open_limit → Ok (record { tokens = p.tokens; cites = p.cites; bytes = p.bytes }) ≡ counts_limited p
     unfolding counts_limited
     all-counted k l m = rw (some, le-leb p.cites citation_limit k, le-leb p.bytes cited_limit l, le-leb p.depth open_limit m)
 
@@ -126,7 +127,7 @@ unfolding some_token
 some_token_lem [] = refl
 some_token_lem (t ∷ ts) = lt-ltb 0 (suc (length ts)) (omega arith)
 
-map-unless : (b : Bool) (why : Refusal) (r : Result (List Tok)) → map_ok counted (unless b why r) ≡ unless b why (map_ok counted r)
+map-unless : (b : Bool) (why : Refusal) (r : Result (List Tok) Refusal) → map_ok counted (unless b why r) ≡ unless b why (map_ok counted r)
 unfolding map_ok
 map-unless true why r = refl
 map-unless false why r = refl
@@ -139,9 +140,9 @@ counts_limited_lem p ts a b c d =
     rw (a, b, c, d, some_token_lem ts, shallow-depth 0 ts (omega arith))
     (sym (map-unless (some_token ts) Empty _
     ∙ ap (unless (some_token ts) Empty) (map-unless (few (texts ts)) TooManyCitations _
-    ∙ ap (unless (few (texts ts)) TooManyCitations) (map-unless (shallow open_limit 0 ts) TooDeep (ok ts)))))
+    ∙ ap (unless (few (texts ts)) TooManyCitations) (map-unless (shallow open_limit 0 ts) TooDeep (Ok ts)))))
 
-then-unless : (b : Bool) (why : Refusal) (r : Result (List Tok)) → then (unless b why r) parse ≡ unless b why (then r parse)
+then-unless : (b : Bool) (why : Refusal) (r : Result (List Tok) Refusal) → then (unless b why r) parse ≡ unless b why (then r parse)
 unfolding then
 then-unless true why r = refl
 then-unless false why r = refl
@@ -151,13 +152,13 @@ unfolding limited tree then
 limited_parsed ts =
     then-unless (some_token ts) Empty _
     ∙ ap (unless (some_token ts) Empty) (then-unless (few (texts ts)) TooManyCitations _
-    ∙ ap (unless (few (texts ts)) TooManyCitations) (then-unless (shallow open_limit 0 ts) TooDeep (ok ts)))
+    ∙ ap (unless (few (texts ts)) TooManyCitations) (then-unless (shallow open_limit 0 ts) TooDeep (Ok ts)))
 
 -- tokens that are ready, and then parsed: the reading of the characters
 pub tokenized_parsed : (cs : List ℕ) → then (tokenized cs) parse ≡ expression cs
 unfolding tokenized expression then
 tokenized_parsed cs = go (lex cs)
   where
-    go : (r : Result (List Tok)) → then (then r limited) parse ≡ then r tree
-    go (ok ts) = limited_parsed ts
-    go (refused k) = refl
+    go : (r : Result (List Tok) Refusal) → then (then r limited) parse ≡ then r tree
+    go (Ok ts) = limited_parsed ts
+    go (Err k) = refl

@@ -8,6 +8,7 @@ use lib.ListN.{length, drop, get_or, length-drop}
 use Rattle.refusal.specs.declared.Refusal.{Refusal}
 use Rattle.refusal.specs.declared.Refusal.TheVariants.{Stray}
 use Rattle.utf8.specs.Utf8.{is_utf8, decode, step_at}
+use Rattle.utf8.specs.declared.Step.{Step}
 use Rattle.utf8.specs.declared.Step.TheVariants.{Char, Bad, End}
 use Rattle.utf8.proofs.Laws.{char_at, decode-at, step_bad, step_end}
 use Rattle.grammar.specs.Expr.{And, Or, Xor}
@@ -18,14 +19,16 @@ use Rattle.lexer.specs.Scan.{Scan, halt, meets, outer_scan, scan, scan_in}
 use Rattle.lexer.specs.State.{Ahead, Closing, Marked, Cites}
 use Rattle.lexer.proofs.Split.{step_width}
 
--- UTF-8 has no bad step
-pub no_bad : (s : List ℕ) (i : ℕ) → is_utf8 (drop i s) ≡ true → step_at s i ≡ Bad → ⊥
-no_bad s i u e =
-    let g = sym (step_bad (drop i s) e) ∙ u in
-    let z : ◌≡◌ {A = ℕ} 0 1 = cc in omega arith
-
-pub no_end : (s : List ℕ) (i : ℕ) → i < length s → step_at s i ≡ End → ⊥
-no_end s i h e = omega (arith, ap length (step_end (drop i s) e), length-drop i s)
+-- in UTF-8 a character stands at each place before the end
+pub no_step : (s : List ℕ) (i : ℕ) → i < length s → is_utf8 (drop i s) ≡ true → ((c w : ℕ) → step_at s i ≡ Char c w → ⊥) → ⊥
+no_step s i h u n = go (step_at s i) refl
+  where
+    go : (x : Step) → step_at s i ≡ x → ⊥
+    go (Char c w) e = n c w e
+    go Bad e =
+        let g = sym (step_bad (drop i s) e) ∙ u in
+        let z : ◌≡◌ {A = ℕ} 0 1 = cc in omega arith
+    go End e = omega (arith, ap length (step_end (drop i s) e), length-drop i s)
 
 -- a number's part
 abbrev part_at : ℕ → Part

@@ -1,19 +1,22 @@
 -- Runs of characters, and where they end. Assumes nothing.
-use Prim.Native.Nat.{ℕ, suc, ◌+◌, ◌/◌, ◌%◌, ◌≤◌, ◌<◌}
+use Prim.Native.Nat.{ℕ, zero, suc, ◌+◌, ◌/◌, ◌%◌, ◌≤◌, ◌<◌}
 use mathlib.Core.Path.{◌≡◌, refl, sym, ap, ◌∙◌}
-use mathlib.Core.Bool.{Bool, true, false, not}
+use mathlib.Core.Bool.{Bool, true, false, not, beq, cond}
 use mathlib.Core.List.{List, [], ◌∷◌, ◌++◌}
 use native.Mathlib.Omega.{arith}
-use native.Mathlib.Numerals.{add-one}
 use lib.Dec.{eqb, ltb}
-use lib.ListN.{length, drop, get_or, drop_of_length-le}
-use lib.Seq.{drop-cons}
-use borrow.Author.Tests.{eq-eqb, ne_eqb, eqb-true, eqb-false, ltb-false}
+use lib.ListN.{length, drop, get_or, length-drop}
+use lib.Seq.{get_or-drop}
+use borrow.Author.Tests.{eq-eqb, ne_eqb, eqb-true, eqb-false, ltb-true, ltb-false}
 use Rattle.laws.specs.Tests.{agree, cond_both}
+use Rattle.std.specs.Prelude.{Option, Some, None}
+use Rattle.std.specs.List.{position_or_len}
+use Rattle.std.proofs.lemmas.List.Recursion.{is_position_or_len}
 use Rattle.utf8.specs.Utf8.{decode, encode, encode_char, step_at}
 use Rattle.utf8.specs.White.{is_white}
+use Rattle.utf8.specs.declared.Step.{Step}
 use Rattle.utf8.specs.declared.Step.TheVariants.{Char, Bad, End}
-use Rattle.utf8.proofs.Laws.{decode-at, decode_bad, step_end, decode_nil}
+use Rattle.utf8.proofs.Laws.{step_char, decode-at, decode_bad, step_end, decode_nil}
 use Rattle.utf8.proofs.Ascii.{ascii-at}
 use Rattle.utf8.proofs.White.{white_visible}
 use Rattle.grammar.specs.Lex.{blank_char}
@@ -87,14 +90,36 @@ module _ (w : Bool) (s : List ℕ) (i : ℕ) where
       let n = ap (λ (x : List ℕ). length (encode (leading w x))) (decode-at s i c k e) in
       omega (arith, n, ap (λ (x : List ℕ). length (encode x)) (lead_off w c (decode (drop (i + k) s)) t))
 
-  pub run_bad : step_at s i ≡ Bad → i ≡ run_end w s i
-  run_bad e = none (decode_bad (drop i s) e)
-
-  pub run_end_lem : step_at s i ≡ End → i ≡ run_end w s i
-  run_end_lem e = none (ap decode (step_end (drop i s) e) ∙ decode_nil)
+  -- no character stands there
+  pub run_stop : ((c k : ℕ) → step_at s i ≡ Char c k → ⊥) → i ≡ run_end w s i
+  run_stop h = go (step_at s i) refl
+    where
+      go : (x : Step) → step_at s i ≡ x → i ≡ run_end w s i
+      go (Char c k) e = absurd (h c k e)
+      go Bad e = none (decode_bad (drop i s) e)
+      go End e = none (ap decode (step_end (drop i s) e) ∙ decode_nil)
 
   pub run_out : length s ≤ i → i ≡ run_end w s i
   run_out h = none (none_left s i h)
+
+-- a character is within the text
+pub char_within : (s : List ℕ) (i c k : ℕ) → step_at s i ≡ Char c k → (i < length s) × (1 ≤ k) × (i + k ≤ length s)
+char_within s i c k e =
+    let d = step_char (drop i s) c k e in
+    (omega (arith, d.2, d.3, length-drop i s), d.2, omega (arith, d.2, d.3, length-drop i s))
+
+-- equality of tests
+pub agree_same : (a b : Bool) → not (beq a b) ≡ false → agree a b ≡ true
+agree_same true true h = refl
+agree_same true false h = sym h
+agree_same false true h = sym h
+agree_same false false h = refl
+
+pub agree_other : (a b : Bool) → not (beq a b) ≡ true → agree a b ≡ false
+agree_other true true h = sym h
+agree_other true false h = refl
+agree_other false true h = refl
+agree_other false false h = sym h
 
 -- the white space from `i` on, by an ASCII byte there
 module _ (s : List ℕ) (i : ℕ) (h : i < length s) where
@@ -186,18 +211,48 @@ upto_bytes x (c ∷ cs) h = go (eqb c x) refl (upto_bytes x cs h)
         rw e (ap (λ (y : ℕ). up_to x (encode_char y ++ encode cs)) q ∙ ap (up_to x) (ascii_char x (encode cs) h) ∙ upto_here x x (encode cs) refl)
     go false e k = rw e (upto_char x c (encode cs) h (eqb-false c x e) ∙ ap (λ (y : List ℕ). encode_char c ++ y) k)
 
--- the search from `i` on, by the byte there
-module _ (x : ℕ) (s : List ℕ) (i : ℕ) where
-  pub find_on : i < length s → (get_or s i 0 ≡ x → ⊥) → i + 1 + length (up_to x (drop (i + 1) s)) ≡ i + length (up_to x (drop i s))
-  find_on h n =
-      let e : length (up_to x (drop i s)) ≡ suc (length (up_to x (drop (suc i) s))) =
-      ap (λ (l : List ℕ). length (up_to x l)) (drop-cons s i 0 h) ∙ ap length (upto_skip x (get_or s i 0) (drop (suc i) s) n) in
-      rw (add-one i) (omega (arith, e))
+-- `l` and where the first byte that passes stands in it, as `position` says
+module _ (test : ℕ → Bool) (l : List ℕ) {r : Option ℕ} (h : r ≡ cond (ltb (position_or_len test l) (length l)) (Some (position_or_len test l)) None) where
+  pub place_found : (n : ℕ) → r ≡ Some n → (n < length l) × (n ≡ position_or_len test l)
+  place_found n e = go (ltb (position_or_len test l) (length l)) refl (sym h ∙ e)
+    where
+      go : (b : Bool) → ltb (position_or_len test l) (length l) ≡ b → cond b (Some (position_or_len test l)) None ≡ Some n → (n < length l) × (n ≡ position_or_len test l)
+      go true q f = let z : position_or_len test l ≡ n = cc in (omega (arith, ltb-true (position_or_len test l) (length l) q), sym z)
+      go false q f = let z : ◌≡◌ {A = ℕ} 0 1 = cc in absurd (omega arith)
 
-  pub find_here : i < length s → get_or s i 0 ≡ x → i ≡ i + length (up_to x (drop i s))
-  find_here h e =
-      omega (arith, ap (λ (l : List ℕ). length (up_to x l)) (drop-cons s i 0 h) ∙ ap length (upto_here x (get_or s i 0) (drop (suc i) s) e))
+  pub place_none : r ≡ None → length l ≤ position_or_len test l
+  place_none e = go (ltb (position_or_len test l) (length l)) refl (sym h ∙ e)
+    where
+      go : (b : Bool) → ltb (position_or_len test l) (length l) ≡ b → cond b (Some (position_or_len test l)) None ≡ None → length l ≤ position_or_len test l
+      go false q f = ltb-false (position_or_len test l) (length l) q
+      go true q f = let z : ◌≡◌ {A = ℕ} 0 1 = cc in absurd (omega arith)
 
-  pub find_out : length s ≤ i → i ≡ i + length (up_to x (drop i s))
-  unfolding up_to
-  find_out h = omega (arith, ap (λ (l : List ℕ). length (up_to x l)) (drop_of_length-le s h))
+upto_none : (x : ℕ) → length (up_to x []) ≡ 0
+unfolding up_to
+upto_none x = refl
+
+upto_more : (x c : ℕ) (cs : List ℕ) → length (up_to x (c ∷ cs)) ≡ cond (eqb c x) 0 (1 + length (up_to x cs))
+unfolding up_to
+upto_more x c cs = go (eqb c x)
+  where
+    go : (b : Bool) → length (cond b [] (c ∷ up_to x cs)) ≡ cond b 0 (1 + length (up_to x cs))
+    go true = refl
+    go false = omega arith
+
+-- the first x, as `position` says
+pub upto_place : (x : ℕ) (l : List ℕ) → length (up_to x l) ≡ position_or_len (λ b. eqb b x) l
+upto_place x l = is_position_or_len (λ (s : List ℕ). length (up_to x s)) (λ b. eqb b x) (upto_none x) (upto_more x) l
+
+-- spaces in front
+pub spaces_on : (s : List ℕ) (at n : ℕ) → at + n ≤ length s → ((k : ℕ) → k < n → get_or (drop at s) k 0 ≡ blank_char) → run_end true s (at + n) ≡ run_end true s at
+spaces_on s at zero h e = let z : at + 0 ≡ at = omega arith in rw z
+spaces_on s at (suc n) h e =
+    let z : at + suc n ≡ at + n + 1 = omega arith in
+    rw z (space_on s (at + n) (omega arith) (sym (get_or-drop at s n 0) ∙ e n (omega arith)) ∙ spaces_on s at n (omega arith) (λ k l. e k (omega arith)))
+
+pub is_space : (b : ℕ) → not (eqb b blank_char) ≡ false → b ≡ blank_char
+is_space b h = go (eqb b blank_char) refl h
+  where
+    go : (t : Bool) → eqb b blank_char ≡ t → not t ≡ false → b ≡ blank_char
+    go true e i = eqb-true b blank_char e
+    go false e i = let z : ◌≡◌ {A = ℕ} 0 1 = cc in absurd (omega arith)

@@ -1,5 +1,5 @@
 -- The places of a scan are those of the texts that its tokens cite. Assumes nothing.
-use Prim.Native.Nat.{ℕ, suc, ◌+◌, ◌/◌, ◌%◌, ◌<◌}
+use Prim.Native.Nat.{ℕ, suc, ◌+◌}
 use mathlib.Core.Path.{◌≡◌, refl, sym, ap, ap₂, ◌∙◌}
 use mathlib.Core.Bool.{Bool, true, false, cond}
 use mathlib.Core.List.{List, [], ◌∷◌, ◌++◌, append_assoc}
@@ -14,12 +14,6 @@ use Rattle.grammar.specs.Lex.{cited, op, opening, closing, cite_end, blank, Part
 use Rattle.lexer.specs.Tokens.{placed, cut, cuts}
 use Rattle.lexer.specs.Scan.{Scan, last, halt, meets, outer_scan, inner_scan, scan, scan_in, scanned, places_in}
 use Rattle.lexer.proofs.Split.{encode_append}
-
-cut-placed : (s : List ℕ) (from len : ℕ) → len < 8192 → cut s (placed from len) ≡ take len (drop from s)
-cut-placed s from len h =
-    let p : placed from len % 8192 ≡ len = omega arith in
-    let q : placed from len / 8192 ≡ from = omega arith in
-    ap (λ (n : ℕ). take n (drop (placed from len / 8192) s)) p ∙ ap (λ (n : ℕ). take len (drop n s)) q
 
 -- as many places as texts
 pub places_count : (r : Scan) → length (places_in r) ≡ length (texts (scanned r))
@@ -53,11 +47,9 @@ inner_cut true s from t x y e h k = go (blank t)
     go false = ap₂ ◌∷◌ e (k refl)
 inner_cut false s from t x y e h k = h
 
-text_cut : (s p t cs : List ℕ) (from : ℕ) → length s < 8192 → from ≡ length p → s ≡ p ++ (encode t ++ encode cs) → cut s (placed from (length (encode t))) ≡ encode t
-text_cut s p t cs from l e f =
-    let size : length (encode t) < 8192 = omega (arith, ap length f, length-append p (encode t ++ encode cs), length-append (encode t) (encode cs)) in
-    cut-placed s from (length (encode t)) size
-    ∙ ap (λ (x : List ℕ). take (length (encode t)) (drop from x)) f
+text_cut : (s p t cs : List ℕ) (from : ℕ) → from ≡ length p → s ≡ p ++ (encode t ++ encode cs) → cut s (placed from (length (encode t))) ≡ encode t
+text_cut s p t cs from e f =
+    ap (λ (x : List ℕ). take (length (encode t)) (drop from x)) f
     ∙ ap (take (length (encode t))) (drop_at p (encode t ++ encode cs) from (sym e))
     ∙ take-append_seam (encode t) (encode cs)
 
@@ -76,23 +68,23 @@ text_more s p t cs c f =
 mutual
   unfolding scan scanned places_in texts cuts
 
-  scan-cut : (s p cs : List ℕ) (at : ℕ) → length s < 8192 → at ≡ length p → s ≡ p ++ encode cs → Cut s (scan at cs)
-  scan-cut s p [] at l e f = refl
-  scan-cut s p (c ∷ cs) at l e f =
+  scan-cut : (s p cs : List ℕ) (at : ℕ) → at ≡ length p → s ≡ p ++ encode cs → Cut s (scan at cs)
+  scan-cut s p [] at e f = refl
+  scan-cut s p (c ∷ cs) at e f =
       let n : at + length (encode_char c) ≡ length (p ++ encode_char c) = omega (arith, e, length-append p (encode_char c)) in
       let g = front_more s p cs c f in
-      outer-cut (part c) s at _ _ (inside_cut s (p ++ encode_char c) [] cs (at + length (encode_char c)) l n g) (scan-cut s (p ++ encode_char c) cs (at + length (encode_char c)) l n g)
+      outer-cut (part c) s at _ _ (inside_cut s (p ++ encode_char c) [] cs (at + length (encode_char c)) n g) (scan-cut s (p ++ encode_char c) cs (at + length (encode_char c)) n g)
 
-  inside_cut : (s p t cs : List ℕ) (from : ℕ) → length s < 8192 → from ≡ length p → s ≡ p ++ (encode t ++ encode cs) → Cut s (scan_in from t cs)
-  inside_cut s p t [] from l e f = refl
-  inside_cut s p t (c ∷ cs) from l e f =
-      inner_cut (eqb c cite_end) s from t _ _ (text_cut s p t (c ∷ cs) from l e f) (inside_cut s p (t ++ (c ∷ [])) cs from l e (text_more s p t cs c f))
+  inside_cut : (s p t cs : List ℕ) (from : ℕ) → from ≡ length p → s ≡ p ++ (encode t ++ encode cs) → Cut s (scan_in from t cs)
+  inside_cut s p t [] from e f = refl
+  inside_cut s p t (c ∷ cs) from e f =
+      inner_cut (eqb c cite_end) s from t _ _ (text_cut s p t (c ∷ cs) from e f) (inside_cut s p (t ++ (c ∷ [])) cs from e (text_more s p t cs c f))
       (λ b.
       let w : length (encode_char c) ≡ 1 = ap (λ (x : ℕ). length (encode_char x)) (eqb-true c cite_end b) ∙ end_size in
-      scan-cut s ((p ++ encode t) ++ encode_char c) cs (from + length (encode t) + 1) l
+      scan-cut s ((p ++ encode t) ++ encode_char c) cs (from + length (encode t) + 1)
       (omega (arith, e, w, length-append (p ++ encode t) (encode_char c), length-append p (encode t)))
       (front_more s (p ++ encode t) cs c (f ∙ sym (append_assoc p (encode t) (encode (c ∷ cs))))))
 
 -- the texts of a whole text stand at their places
-pub places_cut : (s cs : List ℕ) → length s < 8192 → encode cs ≡ s → cuts s (places_in (scan 0 cs)) ≡ texts (scanned (scan 0 cs))
-places_cut s cs l e = scan-cut s [] cs 0 l refl (sym e)
+pub places_cut : (s cs : List ℕ) → encode cs ≡ s → cuts s (places_in (scan 0 cs)) ≡ texts (scanned (scan 0 cs))
+places_cut s cs e = scan-cut s [] cs 0 refl (sym e)

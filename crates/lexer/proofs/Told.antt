@@ -1,4 +1,5 @@
 -- What the answers of `lex`, `first_word` and `join_words` tell a reader. Assumes nothing.
+use Rattle.std.specs.Prelude.{Result, Ok, Err}
 use Prim.Native.Nat.{ℕ, ◌-◌, ◌≤◌}
 use mathlib.Core.Path.{◌≡◌, refl, sym, ap, ◌∙◌}
 use mathlib.Core.Bool.{Bool, true, false, cond}
@@ -9,13 +10,11 @@ use lib.Dec.{eqb}
 use lib.ListN.{length, take, drop, length-append}
 use lib.Seq.{take_all, take_at}
 use borrow.Author.Tests.{ne_eqb}
-use Rattle.refusal.specs.Result.{Result, ok, refused, refuse, unless_ok, refused≢ok, map_ok, then}
+use Rattle.refusal.specs.Result.{unless_ok, err≢ok, map_ok, then}
 use Rattle.refusal.specs.declared.Refusal.{Refusal}
 use Rattle.refusal.specs.declared.Refusal.TheVariants.{NoStatusWord, Empty, TooManyCitations, TooDeep}
-use Rattle.text.specs.Bytes.{over}
 use Rattle.utf8.specs.Utf8.{is_utf8, decode, encode}
 use Rattle.utf8.specs.White.{is_white}
-use Rattle.utf8.specs.Limits.{text_limit}
 use Rattle.utf8.proofs.Sound.{utf8_sound}
 use Rattle.utf8.proofs.Encode.{encoded}
 use Rattle.status.specs.declared.StatusKind.{StatusKind}
@@ -27,10 +26,11 @@ use Rattle.grammar.proofs.Reading.{few_says}
 use Rattle.grammar.specs.Status.{ended, words_from, words, spaced, joined, alone, stated, after_word, of_words}
 use Rattle.grammar.proofs.StatusLaws.{rest_size, rest_scalars}
 use Rattle.lexer.specs.Runs.{leading, trailing, run_end, first_word}
-use Rattle.lexer.specs.Tokens.{kinds_of, counted, lexed_said, limited, tokenized, cuts}
+use Rattle.lexer.specs.Tokens.{kinds_of, counted, limited, tokenized, cuts, over}
 use Rattle.lexer.specs.Scan.{scanned, places_in, scan_lex, scanned-all}
 use Rattle.lexer.specs.State.{reading}
-use Rattle.lexer.specs.declared.Lexed.TheVariants.{Tokens, Refused}
+use Rattle.lexer.specs.declared.Lexed.{Lexed}
+use Rattle.lexer.specs.declared.Place.{Place}
 use Rattle.lexer.proofs.Split.{encode_append, size_cons, char_size}
 use Rattle.lexer.proofs.Runs.{trail_stop, run_starts}
 use Rattle.lexer.proofs.Scans.{places_count, places_cut}
@@ -48,36 +48,36 @@ texts_fewer (closing ∷ ts) = omega (arith, texts_fewer ts)
 
 -- tokens that are ready passed the tests
 pub record Ready (cs : List ℕ) (ts : List Tok) : Type 0 where
-  pub lexed : lex cs ≡ ok ts
+  pub lexed : lex cs ≡ Ok ts
   pub some : some_token ts ≡ true
   pub limited : few (texts ts) ≡ true
   pub level : shallow open_limit 0 ts ≡ true
 
-same_tokens : (a b : List Tok) → ok a ≡ ok b → a ≡ b
+same_tokens : (a b : List Tok) → ◌≡◌ {A = Result (List Tok) Refusal} (Ok a) (Ok b) → a ≡ b
 same_tokens a b h = cc
 
-pub ready : (cs : List ℕ) (ts : List Tok) → tokenized cs ≡ ok ts → Ready cs ts
+pub ready : (cs : List ℕ) (ts : List Tok) → tokenized cs ≡ Ok ts → Ready cs ts
 unfolding tokenized limited then
 ready cs ts h = go (lex cs) refl h
   where
-    go : (r : Result (List Tok)) → lex cs ≡ r → then r limited ≡ ok ts → Ready cs ts
-    go (refused k) q g = absurd (refused≢ok g)
-    go (ok us) q g =
+    go : (r : Result (List Tok) Refusal) → lex cs ≡ r → then r limited ≡ Ok ts → Ready cs ts
+    go (Err k) q g = absurd (err≢ok g)
+    go (Ok us) q g =
         let p = unless_ok (some_token us) Empty _ ts g in
         let p₂ = unless_ok (few (texts us)) TooManyCitations _ ts p.1 in
         let p₃ = unless_ok (shallow open_limit 0 us) TooDeep _ ts p₂.1 in
         let e = same_tokens us ts p₃.1 in
         record {
-          lexed = q ∙ ap ok e;
+          lexed = q ∙ ap Ok e;
           some = ap some_token (sym e) ∙ p.0;
           limited = ap (λ (x : List Tok). few (texts x)) (sym e) ∙ p₂.0;
           level = ap (shallow open_limit 0) (sym e) ∙ p₃.0;
         }
 
 -- what counts tell, where as many places have room as there can be citations
-pub record Told (s kinds places : List ℕ) (n m b : ℕ) : Type 0 where
+pub record Told (s kinds : List ℕ) (places : List Place) (n m b : ℕ) : Type 0 where
   pub toks : List Tok
-  pub is : tokenized (decode s) ≡ ok toks
+  pub is : tokenized (decode s) ≡ Ok toks
   pub ready : Ready (decode s) toks
   pub tokens : n ≡ length toks
   pub cites : m ≡ length (texts toks)
@@ -89,25 +89,23 @@ pub record Told (s kinds places : List ℕ) (n m b : ℕ) : Type 0 where
   pub held : cuts s (take m places) ≡ texts toks
 
 -- the tokens behind counts
-record Counted (r : Result (List Tok)) (n m b : ℕ) : Type 0 where
+record Counted (r : Result (List Tok) Refusal) (n m b : ℕ) : Type 0 where
   pub toks : List Tok
-  pub is : r ≡ ok toks
+  pub is : r ≡ Ok toks
   pub tokens : n ≡ length toks
   pub cites : m ≡ length (texts toks)
   pub bytes : b ≡ length (concat (texts toks))
 
-abbrev counts_in : Result (ℕ × ℕ × ℕ) → ℕ × ℕ × ℕ
-counts_in (ok x) = x
-counts_in (refused k) = (0, 0, 0)
-
-behind : (r : Result (List Tok)) (n m b : ℕ) → ok (n, m, b) ≡ map_ok counted r → Counted r n m b
+behind : (r : Result (List Tok) Refusal) (n m b : ℕ) → Ok (record { tokens = n; cites = m; bytes = b }) ≡ map_ok counted r → Counted r n m b
 unfolding map_ok
-behind (ok ts) n m b e = let x = ap counts_in e in record { toks = ts; is = refl; tokens = ap (λ (y : ℕ × ℕ × ℕ). y.0) x; cites = ap (λ (y : ℕ × ℕ × ℕ). y.1) x; bytes = ap (λ (y : ℕ × ℕ × ℕ). y.2) x }
-behind (refused k) n m b e = absurd (refused≢ok (sym e))
+behind (Ok ts) n m b e =
+    let x : record { tokens = n; cites = m; bytes = b } ≡ counted ts = cc in
+    record { toks = ts; is = refl; tokens = ap (λ (y : Lexed). y.tokens) x; cites = ap (λ (y : Lexed). y.cites) x; bytes = ap (λ (y : Lexed). y.bytes) x }
+behind (Err k) n m b e = absurd (err≢ok (sym e))
 
-pub told : (s kinds₀ places₀ kinds places : List ℕ) (n m b : ℕ) → is_utf8 s ≡ true → length s ≤ text_limit → length places ≡ length places₀ → (m ≤ citation_limit → m ≤ length kinds → m ≤ length places)
-    → Answers s kinds₀ places₀ kinds places (Tokens n m b) → Told s kinds places n m b
-told s kinds₀ places₀ kinds places n m b u short same l a =
+pub told : (s kinds₀ : List ℕ) (places₀ : List Place) (kinds : List ℕ) (places : List Place) (n m b : ℕ) → is_utf8 s ≡ true → length places ≡ length places₀ → (m ≤ citation_limit → m ≤ length kinds → m ≤ length places)
+    → Answers s kinds₀ places₀ kinds places (Ok (record { tokens = n; cites = m; bytes = b })) → Told s kinds places n m b
+told s kinds₀ places₀ kinds places n m b u same l a =
     let c = behind (tokenized (decode s)) n m b a.0 in
     let ts = c.toks in
     let r = ready (decode s) ts c.is in
@@ -135,15 +133,15 @@ told s kinds₀ places₀ kinds places n m b u short same l a =
       held =
           ap (λ x. cuts s (take m x)) sited
           ∙ ap (cuts s) (take_at (places_in (reading s)) _ m spots)
-          ∙ places_cut s (decode s) (omega arith) (utf8_sound s u).1
+          ∙ places_cut s (decode s) (utf8_sound s u).1
           ∙ ap texts met;
     }
 
 -- what a refusal tells
-pub told_refused : (r : Result (List Tok)) (why : Refusal) → lexed_said (Refused why) ≡ map_ok counted r → r ≡ refuse why
+pub told_refused : (r : Result (List Tok) Refusal) (why : Refusal) → Err why ≡ map_ok counted r → r ≡ Err why
 unfolding map_ok
-told_refused (ok ts) why e = absurd (refused≢ok e)
-told_refused (refused k) why e = cc
+told_refused (Ok ts) why e = absurd (err≢ok e)
+told_refused (Err k) why e = cc
 
 -- the joined words of a text
 abbrev pub joined_bytes : List ℕ → List ℕ
@@ -157,7 +155,7 @@ pub record First (s : List ℕ) : Type 0 where
   pub small : length (joined_bytes (drop (first_word s).end s)) ≤ length s
   pub is : of_words (words (decode s)) ≡ then (kind_of_word (take ((first_word s).end - (first_word s).from) (drop (first_word s).from s))) (λ k. after_word k (words (decode (drop (first_word s).end s))))
 
-no_kind : kind_of_word [] ≡ refuse NoStatusWord
+no_kind : kind_of_word [] ≡ Err NoStatusWord
 unfolding kind_of_word kind_among
 no_kind = refl
 
@@ -234,12 +232,12 @@ words_size cs z =
 
 -- what follows a status word, by whether joined words are there
 pub after_told : (k : StatusKind) (t : List ℕ)
-    → after_word k (words (decode t)) ≡ cond (eqb (length (joined_bytes t)) 0) (ok (alone k)) (map_ok (stated k) (expression (joined (words (decode t)))))
+    → after_word k (words (decode t)) ≡ cond (eqb (length (joined_bytes t)) 0) (Ok (alone k)) (map_ok (stated k) (expression (joined (words (decode t)))))
 unfolding after_word
 after_told k t = go (words (decode t)) (words_size (decode t))
   where
-    go : (ws : List (List ℕ)) → (length (encode (joined ws)) ≡ 0 → ws ≡ []) → after_word k ws ≡ cond (eqb (length (encode (joined ws))) 0) (ok (alone k)) (map_ok (stated k) (expression (joined ws)))
-    go [] h = sym (ap (λ (x : List ℕ). cond (eqb (length (encode x)) 0) (ok (alone k)) (map_ok (stated k) (expression (joined [])))) joined_none)
+    go : (ws : List (List ℕ)) → (length (encode (joined ws)) ≡ 0 → ws ≡ []) → after_word k ws ≡ cond (eqb (length (encode (joined ws))) 0) (Ok (alone k)) (map_ok (stated k) (expression (joined ws)))
+    go [] h = sym (ap (λ (x : List ℕ). cond (eqb (length (encode x)) 0) (Ok (alone k)) (map_ok (stated k) (expression (joined [])))) joined_none)
     go (w ∷ ws) h = rw (ne_eqb (length (encode (joined (w ∷ ws)))) 0 (λ q. omega (arith, ap length (h q))))
 
 two_words : (cs : List ℕ) → words (0x21 ∷ blank_char ∷ cs) ≡ (0x21 ∷ []) ∷ words cs

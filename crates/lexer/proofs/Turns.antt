@@ -1,4 +1,5 @@
 -- How lexing goes on from token to token. Assumes nothing.
+use Rattle.std.specs.Prelude.{Result, Ok, Err}
 use Prim.Native.Nat.{ℕ, suc, ◌+◌, ◌-◌, ◌≤◌, ◌<◌}
 use mathlib.Core.Path.{◌≡◌, refl, sym, ap, ◌∙◌, subst}
 use mathlib.Core.Bool.{true}
@@ -7,41 +8,36 @@ use native.Mathlib.Omega.{arith}
 use lib.ListN.{length, take, drop, set, length-append, length-take, length-drop, length-set, take-append-drop, drop_of_length-le}
 use native.Mathlib.Decide.{dec_lt}
 use lib.Seq.{append_snoc, take_all, take-nil, take-append-le, length-take-le, set_out, drop-set-lt}
-use Rattle.refusal.specs.Result.{Result, ok, refused, refuse, map_ok, then}
-use Rattle.refusal.specs.Refusals.{number_of}
+use Rattle.refusal.specs.Result.{map_ok, then}
 use Rattle.refusal.specs.declared.Refusal.{Refusal}
-use Rattle.text.specs.Bytes.{over}
 use Rattle.utf8.specs.Utf8.{is_utf8, decode}
-use Rattle.utf8.specs.Limits.{text_limit}
 use Rattle.grammar.specs.Expr.{concat}
 use Rattle.grammar.specs.Lex.{Tok, cited, op, opening, closing, also, lex, texts}
 use Rattle.grammar.specs.Rows.{cite_kind}
 use Rattle.grammar.specs.LexPrint.{before}
 use Rattle.grammar.proofs.Bounds.{concat_append}
-use Rattle.lexer.specs.Tokens.{kind_of, kinds_of, deeper, depth, counted, lexed_said, limited, tokenized, counts_limited, placed}
+use Rattle.lexer.specs.Tokens.{kind_of, kinds_of, deeper, depth, counted, limited, tokenized, counts_limited, placed, over}
 use Rattle.lexer.specs.Scan.{Scan, halt, meets, scan, scanned, places_in, outcome, scan_lex}
 use Rattle.lexer.specs.State.{Ahead, Marked, Cites, reading, State, Rests, Turned, Written, Ends}
-use Rattle.lexer.specs.declared.Turn.TheVariants.{On, Off}
 use Rattle.lexer.specs.declared.Count.{Count}
+use Rattle.lexer.specs.declared.Place.{Place}
 use Rattle.lexer.specs.declared.Lexed.{Lexed}
-use Rattle.lexer.specs.declared.Lexed.TheVariants.{Refused}
-use Rattle.fields.proofs.Appends as appends
 use Rattle.lexer.proofs.Split.{none_left}
-use Rattle.lexer.proofs.Copies.{grown}
+use Rattle.lexer.proofs.Copies.{grown, on}
 use Rattle.lexer.proofs.Limits.{depth_snoc, deeper-same, counts_limited_lem}
 
-before_refused : (a : List Tok) (k : ℕ) → before a (refused k) ≡ refused k
+before_refused : (a : List Tok) (k : Refusal) → before a (Err k) ≡ Err k
 unfolding before map_ok
 before_refused a k = refl
 
-before_none : (r : Result (List Tok)) → r ≡ before [] r
+before_none : (r : Result (List Tok) Refusal) → r ≡ before [] r
 unfolding before map_ok
-before_none (ok ts) = refl
-before_none (refused k) = refl
+before_none (Ok ts) = refl
+before_none (Err k) = refl
 
-before_end : (a : List Tok) → before a (ok []) ≡ ok a
+before_end : (a : List Tok) → before a (Ok []) ≡ Ok a
 unfolding before map_ok
-before_end a = ap ok (append-nil a)
+before_end a = ap Ok (append-nil a)
 
 texts_snoc : (a : List Tok) (t : Tok) → texts (a ++ (t ∷ [])) ≡ texts a ++ texts (t ∷ [])
 unfolding texts
@@ -80,7 +76,7 @@ longer : (a : List Tok) (t : Tok) → length (a ++ (t ∷ [])) ≡ length a + 1
 longer a t = length-append a (t ∷ [])
 
 -- the places after one citation more: stored, where there is room
-held_on : (places : List ℕ) (m v : ℕ) (sites : List ℕ) → m ≡ length sites → take m places ≡ take (length places) sites
+held_on : (places : List Place) (m : ℕ) (v : Place) (sites : List Place) → m ≡ length sites → take m places ≡ take (length places) sites
     → take (m + 1) (set places m v) ≡ take (length (set places m v)) (sites ++ (v ∷ []))
 held_on places m v sites e h =
     rw (length-set places m v)
@@ -88,7 +84,7 @@ held_on places m v sites e h =
       | yes l ↦
           (let n : length (sites ++ (v ∷ [])) ≤ length places = omega (arith, length-append sites (v ∷ [])) in
           grown places m v l
-          ∙ ap (λ (x : List ℕ). x ++ (v ∷ [])) (h ∙ take_all (length places) sites (omega arith))
+          ∙ ap (λ (x : List Place). x ++ (v ∷ [])) (h ∙ take_all (length places) sites (omega arith))
           ∙ sym (take_all (length places) (sites ++ (v ∷ [])) n))
       | no l ↦
           (let q : length places ≤ m = omega arith in
@@ -99,10 +95,10 @@ held_on places m v sites e h =
           ∙ sym (take-append-le (length places) sites (v ∷ []) (omega arith)))
     ]
 
-before-also : (a : List Tok) (t : Tok) (r : Result (List Tok)) → before a (also t r) ≡ before (a ++ (t ∷ [])) r
+before-also : (a : List Tok) (t : Tok) (r : Result (List Tok) Refusal) → before a (also t r) ≡ before (a ++ (t ∷ [])) r
 unfolding before map_ok
-before-also a t (ok us) = ap ok (sym (append_snoc a t us))
-before-also a t (refused k) = refl
+before-also a t (Ok us) = ap Ok (sym (append_snoc a t us))
+before-also a t (Err k) = refl
 
 -- one token before others
 meets_tokens : (a : List Tok) (at : ℕ) (t : Tok) (r : Scan) → a ++ scanned (meets at t r) ≡ (a ++ (t ∷ [])) ++ scanned r
@@ -120,19 +116,19 @@ meets_plain at (op o) r h = refl
 meets_plain at opening r h = refl
 meets_plain at closing r h = refl
 
-meets_cited : (b : List ℕ) (at : ℕ) (u : List ℕ) (r : Scan) → b ++ places_in (meets at (cited u) r) ≡ (b ++ (placed at (length u) ∷ [])) ++ places_in r
+meets_cited : (b : List Place) (at : ℕ) (u : List ℕ) (r : Scan) → b ++ places_in (meets at (cited u) r) ≡ (b ++ (placed at (length u) ∷ [])) ++ places_in r
 unfolding places_in
 meets_cited b at u r = sym (append_snoc b (placed at (length u)) (places_in r))
 
-halt_none : (why : Refusal) → (scanned (halt why) ≡ []) × (places_in (halt why) ≡ []) × (outcome (halt why) ≡ refuse why)
+halt_none : (why : Refusal) → (scanned (halt why) ≡ []) × (places_in (halt why) ≡ []) × (outcome (halt why) ≡ Err why)
 unfolding scanned places_in outcome
 halt_none why = (refl, refl, refl)
 
-last_none : (at : ℕ) → (scanned (scan at []) ≡ []) × (places_in (scan at []) ≡ []) × (outcome (scan at []) ≡ ok [])
+last_none : (at : ℕ) → (scanned (scan at []) ≡ []) × (places_in (scan at []) ≡ []) × (outcome (scan at []) ≡ Ok [])
 unfolding scan scanned places_in outcome
 last_none at = (refl, refl, refl)
 
-pub state_start : (s kinds places : List ℕ) → is_utf8 s ≡ true → State s kinds places (record { at = 0; tokens = 0; cites = 0; bytes = 0; depth = 0 })
+pub state_start : (s kinds : List ℕ) (places : List Place) → is_utf8 s ≡ true → State s kinds places (record { at = 0; tokens = 0; cites = 0; bytes = 0; depth = 0 })
 unfolding texts concat kinds_of depth
 state_start s kinds places u = record {
   done = [];
@@ -155,14 +151,14 @@ state_start s kinds places u = record {
 }
 
 -- what one turn leaves as it was
-module _ (kinds places : List ℕ) (p : Count) where
+module _ (kinds : List ℕ) (places : List Place) (p : Count) where
   pub rests_space : (at depth : ℕ) → Rests kinds places kinds places p (record { at = at; tokens = p.tokens; cites = p.cites; bytes = p.bytes; depth = depth })
   rests_space at depth = record { tokens = omega arith; cites = omega arith; kinds_rest = refl; places_rest = refl }
 
   pub rests_mark : (k at depth : ℕ) → Rests kinds places (set kinds p.tokens k) places p (record { at = at; tokens = p.tokens + 1; cites = p.cites; bytes = p.bytes; depth = depth })
   rests_mark k at depth = record { tokens = omega arith; cites = omega arith; kinds_rest = drop-set-lt (p.tokens + 1) kinds p.tokens k (omega arith); places_rest = refl }
 
-  pub rests_cite : (k v at bytes depth : ℕ) (places' : List ℕ) → places' ≡ set places p.cites v
+  pub rests_cite : (k : ℕ) (v : Place) (at bytes depth : ℕ) (places' : List Place) → places' ≡ set places p.cites v
       → Rests kinds places (set kinds p.tokens k) places' p (record { at = at; tokens = p.tokens + 1; cites = p.cites + 1; bytes = bytes; depth = depth })
   rests_cite k v at bytes depth places' e = record {
     tokens = omega arith;
@@ -172,12 +168,12 @@ module _ (kinds places : List ℕ) (p : Count) where
   }
 
 -- what further turns leave as it was
-pub rests_on : (kinds₀ places₀ kinds places kinds' places' : List ℕ) (p q : Count) → Rests kinds places kinds' places' p q → drop p.tokens kinds ≡ drop p.tokens kinds₀ → drop p.cites places ≡ drop p.cites places₀
+pub rests_on : (kinds₀ : List ℕ) (places₀ : List Place) (kinds : List ℕ) (places : List Place) (kinds' : List ℕ) (places' : List Place) (p q : Count) → Rests kinds places kinds' places' p q → drop p.tokens kinds ≡ drop p.tokens kinds₀ → drop p.cites places ≡ drop p.cites places₀
     → (drop q.tokens kinds' ≡ drop q.tokens kinds₀) × (drop q.cites places' ≡ drop q.cites places₀)
 rests_on kinds₀ places₀ kinds places kinds' places' p q r a b =
-    (r.kinds_rest ∙ appends.on p.tokens q.tokens kinds₀ kinds r.tokens a, r.places_rest ∙ appends.on p.cites q.cites places₀ places r.cites b)
+    (r.kinds_rest ∙ on p.tokens q.tokens kinds₀ kinds r.tokens a, r.places_rest ∙ on p.cites q.cites places₀ places r.cites b)
 
-module _ {s kinds places : List ℕ} {p : Count} (h : State s kinds places p) where
+module _ {s kinds : List ℕ} {places : List Place} {p : Count} (h : State s kinds places p) where
   pub state_space : (q : ℕ) → Ahead s p.at q → scan p.at (decode (drop p.at s)) ≡ scan q (decode (drop q s))
       → State s kinds places (record { at = q; tokens = p.tokens; cites = p.cites; bytes = p.bytes; depth = p.depth })
   state_space q a e = record {
@@ -229,10 +225,10 @@ module _ {s kinds places : List ℕ} {p : Count} (h : State s kinds places p) wh
         held = h.held;
       }
 
-  state_cite : (from end v : ℕ) → Cites s p.at from end → p.tokens < length kinds → length s ≤ text_limit → v ≡ placed from (end - from)
+  state_cite : (from end : ℕ) (v : Place) → Cites s p.at from end → p.tokens < length kinds → v ≡ placed from (end - from)
       → State s (set kinds p.tokens cite_kind) (set places p.cites v) (record { at = end + 1; tokens = p.tokens + 1; cites = p.cites + 1; bytes = p.bytes + (end - from); depth = p.depth })
   unfolding kind_of
-  state_cite from end v m l short k =
+  state_cite from end v m l k =
       let a = m.ahead in
       let t = take (end - from) (drop from s) in
       let e = texts_cited h.done t in
@@ -253,19 +249,19 @@ module _ {s kinds places : List ℕ} {p : Count} (h : State s kinds places p) wh
         deep = h.deep ∙ sym (cites-depth (depth 0 h.done) t) ∙ sym (depth_snoc 0 h.done (cited t));
         well = a.well;
         goes = h.goes ∙ ap (λ x. h.done ++ scanned x) m.goes ∙ meets_tokens h.done from (cited t) (scan (end + 1) (decode (drop (end + 1) s)));
-        stands = h.stands ∙ ap (λ x. h.sites ++ places_in x) m.goes ∙ meets_cited h.sites from t (scan (end + 1) (decode (drop (end + 1) s))) ∙ ap (λ (x : ℕ). (h.sites ++ (x ∷ [])) ++ places_in (scan (end + 1) (decode (drop (end + 1) s)))) c;
+        stands = h.stands ∙ ap (λ x. h.sites ++ places_in x) m.goes ∙ meets_cited h.sites from t (scan (end + 1) (decode (drop (end + 1) s))) ∙ ap (λ (x : Place). (h.sites ++ (x ∷ [])) ++ places_in (scan (end + 1) (decode (drop (end + 1) s)))) c;
         ends = h.ends ∙ ap (λ x. before h.done (outcome x)) m.goes ∙ meets-outcome h.done from (cited t) (scan (end + 1) (decode (drop (end + 1) s)));
         shown = grown kinds p.tokens cite_kind l ∙ ap (λ (x : List ℕ). x ++ (cite_kind ∷ [])) h.shown ∙ sym (kinds_snoc h.done (cited t));
         held = held_on places p.cites v h.sites h.spots h.held;
       }
 
-  pub state_stored : (from end v : ℕ) (places' : List ℕ) → places' ≡ set places p.cites v → Cites s p.at from end → p.tokens < length kinds → length s ≤ text_limit → v ≡ placed from (end - from)
+  pub state_stored : (from end : ℕ) (v : Place) (places' : List Place) → places' ≡ set places p.cites v → Cites s p.at from end → p.tokens < length kinds → v ≡ placed from (end - from)
       → State s (set kinds p.tokens cite_kind) places' (record { at = end + 1; tokens = p.tokens + 1; cites = p.cites + 1; bytes = p.bytes + (end - from); depth = p.depth })
-  state_stored from end v places' w m l short k =
-      subst (λ (x : List ℕ). State s (set kinds p.tokens cite_kind) x (record { at = end + 1; tokens = p.tokens + 1; cites = p.cites + 1; bytes = p.bytes + (end - from); depth = p.depth })) (sym w) (state_cite from end v m l short k)
+  state_stored from end v places' w m l k =
+      subst (λ (x : List Place). State s (set kinds p.tokens cite_kind) x (record { at = end + 1; tokens = p.tokens + 1; cites = p.cites + 1; bytes = p.bytes + (end - from); depth = p.depth })) (sym w) (state_cite from end v m l k)
 
   -- what was written since lexing began
-  module _ (kinds₀ places₀ : List ℕ) (same : length places ≡ length places₀) (restk : drop p.tokens kinds ≡ drop p.tokens kinds₀) (restp : drop p.cites places ≡ drop p.cites places₀) where
+  module _ (kinds₀ : List ℕ) (places₀ : List Place) (same : length places ≡ length places₀) (restk : drop p.tokens kinds ≡ drop p.tokens kinds₀) (restp : drop p.cites places ≡ drop p.cites places₀) where
     kinds-over : kinds ≡ over (kinds_of h.done) kinds₀
     kinds-over =
         sym (take-append-drop p.tokens kinds)
@@ -297,36 +293,36 @@ module _ {s kinds places : List ℕ} {p : Count} (h : State s kinds places p) wh
         (kinds-over ∙ ap (λ x. over (kinds_of x) kinds₀) a, places_over ∙ ap (λ x. over (take (length places₀) x) places₀) b)
 
     -- lexing stops
-    state_off : (why : Refusal) → scan p.at (decode (drop p.at s)) ≡ halt why → Ends s kinds₀ places₀ kinds places (Off why)
+    state_off : (why : Refusal) → scan p.at (decode (drop p.at s)) ≡ halt why → Ends s kinds₀ places₀ kinds places (Err why)
     state_off why e =
         let n = halt_none why in
-        (sym (scan_lex 0 (decode s)) ∙ h.ends ∙ ap (λ x. before h.done (outcome x)) e ∙ ap (before h.done) n.2 ∙ before_refused h.done (number_of why), written (halt why) e n.0 n.1)
+        (sym (scan_lex 0 (decode s)) ∙ h.ends ∙ ap (λ x. before h.done (outcome x)) e ∙ ap (before h.done) n.2 ∙ before_refused h.done why, written (halt why) e n.0 n.1)
 
-    pub state_halts : (why : Refusal) (kinds' places' : List ℕ) → Turned s kinds places kinds' places' p (Off why) → Ends s kinds₀ places₀ kinds' places' (Off why)
+    pub state_halts : (why : Refusal) (kinds' : List ℕ) (places' : List Place) → Turned s kinds places kinds' places' p (Err why) → Ends s kinds₀ places₀ kinds' places' (Err why)
     state_halts why kinds' places' t =
-        subst (λ x. Ends s kinds₀ places₀ x places' (Off why)) (sym t.1) (subst (λ x. Ends s kinds₀ places₀ kinds x (Off why)) (sym t.2) (state_off why t.0))
+        subst (λ x. Ends s kinds₀ places₀ x places' (Err why)) (sym t.1) (subst (λ x. Ends s kinds₀ places₀ kinds x (Err why)) (sym t.2) (state_off why t.0))
 
     -- at the end of the text
-    pub state_on : length s ≤ p.at → Ends s kinds₀ places₀ kinds places (On p)
+    pub state_on : length s ≤ p.at → Ends s kinds₀ places₀ kinds places (Ok p)
     state_on l =
         let n = last_none p.at in
         (l, h, written (scan p.at []) (ap (scan p.at) (none_left s p.at l)) n.0 n.1)
 
-  state_end : length s ≤ p.at → lex (decode s) ≡ ok h.done
+  state_end : length s ≤ p.at → lex (decode s) ≡ Ok h.done
   state_end l =
       sym (scan_lex 0 (decode s)) ∙ h.ends ∙ ap (λ (x : List ℕ). before h.done (outcome (scan p.at x))) (none_left s p.at l) ∙ ap (before h.done) (last_none p.at).2 ∙ before_end h.done
 
 -- what `lex` answers and writes
-abbrev pub Answers : (s kinds₀ places₀ kinds places : List ℕ) → Lexed → Type 0
-Answers s kinds₀ places₀ kinds places r = (lexed_said r ≡ map_ok counted (tokenized (decode s))) × Written s kinds₀ places₀ kinds places
+abbrev pub Answers : (s kinds₀ : List ℕ) (places₀ : List Place) (kinds : List ℕ) (places : List Place) → Result Lexed Refusal → Type 0
+Answers s kinds₀ places₀ kinds places r = (r ≡ map_ok counted (tokenized (decode s))) × Written s kinds₀ places₀ kinds places
 
-pub lex_off : (s kinds₀ places₀ kinds places : List ℕ) (why : Refusal) → Ends s kinds₀ places₀ kinds places (Off why) → Answers s kinds₀ places₀ kinds places (Refused why)
+pub lex_off : (s kinds₀ : List ℕ) (places₀ : List Place) (kinds : List ℕ) (places : List Place) (why : Refusal) → Ends s kinds₀ places₀ kinds places (Err why) → Answers s kinds₀ places₀ kinds places (Err why)
 unfolding tokenized then map_ok
 lex_off s kinds₀ places₀ kinds places why e =
-    let x : tokenized (decode s) ≡ refuse why = rw e.0 in
+    let x : tokenized (decode s) ≡ Err why = rw e.0 in
     (sym (ap (map_ok counted) x), e.1)
 
-pub lex_on : (s kinds₀ places₀ kinds places : List ℕ) (p : Count) → Ends s kinds₀ places₀ kinds places (On p) → (r : Lexed) → lexed_said r ≡ counts_limited p → Answers s kinds₀ places₀ kinds places r
+pub lex_on : (s kinds₀ : List ℕ) (places₀ : List Place) (kinds : List ℕ) (places : List Place) (p : Count) → Ends s kinds₀ places₀ kinds places (Ok p) → (r : Result Lexed Refusal) → r ≡ counts_limited p → Answers s kinds₀ places₀ kinds places r
 unfolding tokenized then
 lex_on s kinds₀ places₀ kinds places p g r e =
     let h = g.1 in

@@ -1,12 +1,13 @@
 -- What characters are read as from left to right: tokens with their places, up to the end or to the leftmost refusal. Assumes nothing.
-use Rattle.std.specs.Prelude.{ℕ, ◌+◌, ◌≡◌, refl, Bool, true, false, cond, List, [], ◌∷◌, ◌++◌, eqb, length}
+use Rattle.std.specs.Prelude.{ℕ, ◌+◌, ◌≡◌, refl, Bool, true, false, cond, List, [], ◌∷◌, ◌++◌, eqb, length, Result, Ok, Err}
 use Rattle.std.proofs.Common.{ap, ap₂, ◌∙◌}
-use Rattle.refusal.specs.Result.{Result, ok, refused, refuse, refused≢ok, map_ok}
+use Rattle.refusal.specs.Result.{err≢ok, map_ok}
 use Rattle.refusal.specs.declared.Refusal.{Refusal}
 use Rattle.refusal.specs.declared.Refusal.TheVariants.{Stray, Unterminated, EmptyCondition}
 use Rattle.utf8.specs.Utf8.{encode, encode_char}
 use Rattle.grammar.specs.Lex.{Tok, cited, op, opening, closing, cite_end, blank, Part, bracket, sign, left, right, space, stray, part, also, outer, inner, lex, inside}
 use Rattle.lexer.specs.Tokens.{placed}
+use Rattle.lexer.specs.declared.Place.{Place}
 
 -- tokens, each with the number of its first byte, a citation with that of its text; then the end, or a refusal
 pub data Scan : Type 0 where
@@ -52,7 +53,7 @@ scanned (halt why) = []
 scanned (meets at t r) = t ∷ scanned r
 
 -- the places of the texts that they cite
-unfoldable pub places_in : Scan → List ℕ
+unfoldable pub places_in : Scan → List Place
 places_in last = []
 places_in (halt why) = []
 places_in (meets at (cited t) r) = placed at (length t) ∷ places_in r
@@ -61,9 +62,9 @@ places_in (meets at opening r) = places_in r
 places_in (meets at closing r) = places_in r
 
 -- the tokens, or the refusal
-unfoldable pub outcome : Scan → Result (List Tok)
-outcome last = ok []
-outcome (halt why) = refuse why
+unfoldable pub outcome : Scan → Result (List Tok) Refusal
+outcome last = Ok []
+outcome (halt why) = Err why
 outcome (meets at t r) = also t (outcome r)
 
 outer-outcome : (p : Part) (at : ℕ) (x y : Scan) → outcome (outer_scan p at x y) ≡ outer p (outcome x) (outcome y)
@@ -79,7 +80,7 @@ inner-outcome : (b : Bool) (from : ℕ) (t : List ℕ) (x y : Scan) → outcome 
 unfolding outcome inner_scan inner
 inner-outcome true from t x y = go (blank t)
   where
-    go : (w : Bool) → outcome (cond w (halt EmptyCondition) (meets from (cited (encode t)) y)) ≡ cond w (refuse EmptyCondition) (also (cited (encode t)) (outcome y))
+    go : (w : Bool) → outcome (cond w (halt EmptyCondition) (meets from (cited (encode t)) y)) ≡ cond w (Err EmptyCondition) (also (cited (encode t)) (outcome y))
     go true = refl
     go false = refl
 inner-outcome false from t x y = refl
@@ -101,12 +102,12 @@ mutual
       ∙ ap₂ (inner (eqb c cite_end) t) (scan_inside from (t ++ (c ∷ [])) cs) (scan_lex (from + length (encode t) + 1) cs)
 
 -- where there is no refusal, all tokens were met
-pub scanned-all : (r : Scan) (ts : List Tok) → outcome r ≡ ok ts → scanned r ≡ ts
+pub scanned-all : (r : Scan) (ts : List Tok) → outcome r ≡ Ok ts → scanned r ≡ ts
 unfolding outcome scanned map_ok
 scanned-all last ts e = cc
-scanned-all (halt why) ts e = absurd (refused≢ok e)
+scanned-all (halt why) ts e = absurd (err≢ok e)
 scanned-all (meets at t r) ts e = go (outcome r) refl e (scanned-all r)
   where
-    go : (x : Result (List Tok)) → outcome r ≡ x → also t x ≡ ok ts → ((us : List Tok) → outcome r ≡ ok us → scanned r ≡ us) → t ∷ scanned r ≡ ts
-    go (ok us) q f h = let g : t ∷ us ≡ ts = cc in ap (λ x. t ∷ x) (h us q) ∙ g
-    go (refused k) q f h = absurd (refused≢ok f)
+    go : (x : Result (List Tok) Refusal) → outcome r ≡ x → also t x ≡ Ok ts → ((us : List Tok) → outcome r ≡ Ok us → scanned r ≡ us) → t ∷ scanned r ≡ ts
+    go (Ok us) q f h = let g : t ∷ us ≡ ts = cc in ap (λ x. t ∷ x) (h us q) ∙ g
+    go (Err k) q f h = absurd (err≢ok f)

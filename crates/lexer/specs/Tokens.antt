@@ -1,9 +1,7 @@
 -- What the lexer answers and writes: counts, kinds of tokens, places of citations. Assumes nothing.
-use Rattle.std.specs.Prelude.{◌≡◌, ℕ, suc, pred, ◌+◌, ◌*◌, ◌/◌, ◌%◌, refl, cond, ◌&&◌, List, [], ◌∷◌, eqb, leb, ltb, length, take, drop}
-use Rattle.std.proofs.Common.{ap}
-use mathlib.Mathlib.Logic.Function.Defs.{Injective}
-use Rattle.refusal.specs.Refusals.{number_back}
-use Rattle.refusal.specs.Result.{Result, ok, refuse, unless, then, saying, said_injective}
+use Rattle.std.specs.Prelude.{ℕ, suc, pred, cond, ◌&&◌, List, [], ◌∷◌, ◌++◌, eqb, leb, ltb, length, take, drop, Result, Ok}
+use Rattle.refusal.specs.declared.Refusal.{Refusal}
+use Rattle.refusal.specs.Result.{unless, then}
 use Rattle.refusal.specs.declared.Refusal.TheVariants.{Empty, TooManyCitations, TooDeep}
 use Rattle.grammar.specs.Expr.{concat}
 use Rattle.grammar.specs.Lex.{Tok, cited, op, opening, closing, Part, bracket, sign, left, right, space, stray, lex, texts}
@@ -11,7 +9,7 @@ use Rattle.grammar.specs.Rows.{cite_kind, op_kind}
 use Rattle.grammar.specs.Reading.{citation_limit, cited_limit, open_limit, some_token, few, shallow}
 use Rattle.lexer.specs.declared.Count.{Count}
 use Rattle.lexer.specs.declared.Lexed.{Lexed}
-use Rattle.lexer.specs.declared.Lexed.TheVariants.{Tokens, Refused}
+use Rattle.lexer.specs.declared.Place.{Place}
 
 -- the kind of an opening parenthesis
 abbrev pub open_kind : ℕ
@@ -52,51 +50,37 @@ depth d [] = d
 depth d (t ∷ ts) = depth (deeper d (kind_of t)) ts
 
 -- the counts of tokens, of citations and of the bytes in them
-abbrev pub counted : List Tok → ℕ × ℕ × ℕ
-counted ts = (length ts, length (texts ts), length (concat (texts ts)))
-
--- what `lex` answers
-abbrev pub lexed_said : Lexed → Result (ℕ × ℕ × ℕ)
-lexed_said (Tokens n m b) = ok (n, m, b)
-lexed_said (Refused why) = refuse why
-
--- what is said determines the answer
-pub lexed_said_injective : Injective lexed_said
-lexed_said_injective =
-    said_injective (λ (x : ℕ × ℕ × ℕ). Tokens x.0 x.1 x.2) Refused lexed_said λ a. elim a as (λ k. saying (λ (x : ℕ × ℕ × ℕ). Tokens x.0 x.1 x.2) Refused (lexed_said k) ≡ k) [ Tokens n m b ↦ refl | Refused why ↦ ap Refused (number_back why) ]
+abbrev pub counted : List Tok → Lexed
+counted ts = record { tokens = length ts; cites = length (texts ts); bytes = length (concat (texts ts)) }
 
 -- tokens that pass the tests before parsing: 6, 12, 13
-unfoldable pub limited : List Tok → Result (List Tok)
-limited ts = unless (some_token ts) Empty (unless (few (texts ts)) TooManyCitations (unless (shallow open_limit 0 ts) TooDeep (ok ts)))
+unfoldable pub limited : List Tok → Result (List Tok) Refusal
+limited ts = unless (some_token ts) Empty (unless (few (texts ts)) TooManyCitations (unless (shallow open_limit 0 ts) TooDeep (Ok ts)))
 
 -- the tokens of characters, ready to be parsed: the leftmost of 1, 2, 3 first
-unfoldable pub tokenized : List ℕ → Result (List Tok)
+unfoldable pub tokenized : List ℕ → Result (List Tok) Refusal
 tokenized cs = then (lex cs) limited
 
 -- the tests 6, 12, 13 on counts
-unfoldable pub counts_limited : Count → Result (ℕ × ℕ × ℕ)
+unfoldable pub counts_limited : Count → Result Lexed Refusal
 counts_limited p =
     unless (ltb 0 p.tokens) Empty
     (unless (leb p.cites citation_limit && leb p.bytes cited_limit) TooManyCitations
-    (unless (leb p.depth open_limit) TooDeep (ok (p.tokens, p.cites, p.bytes))))
+    (unless (leb p.depth open_limit) TooDeep (Ok (record { tokens = p.tokens; cites = p.cites; bytes = p.bytes }))))
 
--- a part of a text as one number: where it starts, and its length
-abbrev pub placed : (from size : ℕ) → ℕ
-placed from size = from * 8192 + size
-
--- where a place starts
-abbrev pub start_of : ℕ → ℕ
-start_of v = v / 8192
-
--- the length of a place
-abbrev pub size_of : ℕ → ℕ
-size_of v = v % 8192
+-- a part of a text: where it starts, and its length
+abbrev pub placed : (from size : ℕ) → Place
+placed from size = record { from = from; size = size }
 
 -- the bytes at a place
-abbrev pub cut : List ℕ → ℕ → List ℕ
-cut s v = take (size_of v) (drop (start_of v) s)
+abbrev pub cut : List ℕ → Place → List ℕ
+cut s v = take v.size (drop v.from s)
 
 -- the bytes at places
-unfoldable pub cuts : List ℕ → List ℕ → List (List ℕ)
+unfoldable pub cuts : List ℕ → List Place → List (List ℕ)
 cuts s [] = []
 cuts s (v ∷ vs) = cut s v ∷ cuts s vs
+
+-- a list put over the front of another: behind it stands what stood there
+abbrev pub over : {A : Type 0} → List A → List A → List A
+over s old = s ++ drop (length s) old

@@ -4,7 +4,6 @@
 
 ghost use Rattle.std.specs.Prelude.{◌≡◌, true, false, ◌++◌, ◌+◌, ◌-◌, ◌≤◌, ◌<◌, length, take, drop, set};
 ghost use Rattle.refusal.specs.Result.{map_ok};
-ghost use Rattle.text.specs.Bytes.{over};
 ghost use Rattle.laws.specs.Tests.{agree};
 ghost use Rattle.utf8.specs.Utf8.{is_utf8, decode, encode};
 ghost use Rattle.utf8.specs.Limits.{text_limit};
@@ -12,11 +11,13 @@ ghost use Rattle.grammar.specs.Lex.{cite_end, part};
 ghost use Rattle.grammar.specs.Status.{words, joined};
 ghost use Rattle.fields.specs.Appended.{Appended};
 ghost use Rattle.lexer.specs.Runs.{run_end, up_to, first_word, gap};
-ghost use Rattle.lexer.specs.Tokens.{kinds_of, part_number, deeper, counted, lexed_said, tokenized, counts_limited, placed, start_of, size_of};
+ghost use Rattle.lexer.specs.Tokens.{kinds_of, part_number, deeper, counted, tokenized, counts_limited, placed, over};
 ghost use Rattle.lexer.specs.Scan.{scan, scanned, places_in};
 ghost use Rattle.lexer.specs.State.{Closes, Begins, State, Turned, Ends};
 
+use fields::put_text;
 use refusal::Refusal;
+use text::tail;
 use utf8::Step;
 
 // The kinds of tokens; a citation and the operators have those of their node rows.
@@ -51,11 +52,11 @@ pub struct Span {
     pub end: usize,
 }
 
-// Where a citation's text ends, or why there is none.
+// Where the text of a citation stands: its first byte's number, and how many bytes it has.
 #[derive(Clone, Copy)]
-enum Close {
-    At(usize),
-    Never(Refusal),
+pub struct Place {
+    pub from: u16,
+    pub size: u16,
 }
 
 // What stands at a place, with the number of the byte after it.
@@ -64,7 +65,6 @@ enum Token {
     Space(usize),
     Mark { kind: u8, next: usize },
     Cite { from: usize, end: usize },
-    Stop(Refusal),
 }
 
 // How far lexing is: the next byte's number; tokens, citations, the bytes in them, and open parentheses so far.
@@ -77,53 +77,25 @@ struct Count {
     pub depth: usize,
 }
 
-#[derive(Clone, Copy)]
-enum Turn {
-    On(Count),
-    Off(Refusal),
-}
-
 // The counts of tokens, citations and bytes in them.
 #[derive(Clone, Copy)]
-pub enum Lexed {
-    Tokens {
-        tokens: usize,
-        cites: usize,
-        bytes: usize,
-    },
-    Refused(Refusal),
-}
-
-fn agrees(a: bool, b: bool) -> bool
-    ensures { result ≡ agree a b }
-{
-    if a {
-        return b;
-    }
-    !b
+pub struct Lexed {
+    pub tokens: usize,
+    pub cites: usize,
+    pub bytes: usize,
 }
 
 // The place after the characters from `at` on that are white space, or after those that are not, whatever characters they are.
 fn any_end(text: &[u8], at: usize, white: bool) -> usize
     ensures { result ≡ run_end white text.now at }
 {
+    // a loop: each step is as wide as its character
     let mut i = at;
-    while i < text.len() {
-        let here = utf8::step_at(text, i);
-        match here {
-            Step::Char { code, width } => {
-                if !agrees(utf8::is_white(code), white) {
-                    return i;
-                }
-                i += width;
-            }
-            Step::Bad => {
-                return i;
-            }
-            Step::End => {
-                return i;
-            }
+    while let Step::Char { code, width } = utf8::step_at(text, i) {
+        if utf8::is_white(code) != white {
+            return i;
         }
+        i += width;
     }
     i
 }
@@ -133,27 +105,20 @@ fn other_end(text: &[u8], at: usize) -> usize
     requires { at < length text.now }
     ensures { result ≡ run_end true text.now at }
 {
-    if text[at] <= b' ' {
-        return any_end(text, at, true);
+    if text[at].is_ascii_graphic() {
+        return at;
     }
-    if 0x7F < text[at] {
-        return any_end(text, at, true);
-    }
-    at
+    any_end(text, at, true)
 }
 
 // The place after the white space from `at` on: spaces first.
 fn white_end(text: &[u8], at: usize) -> usize
     ensures { result ≡ run_end true text.now at }
 {
-    let mut i = at;
-    while i < text.len() {
-        if text[i] != b' ' {
-            return other_end(text, i);
-        }
-        i += 1;
+    match tail(text, at).iter().position(|&b| b != b' ') {
+        Some(spaces) => other_end(text, at + spaces),
+        None => at.max(text.len()),
     }
-    i
 }
 
 // The place after the characters from `at` on that are white space, or after those that are not.
@@ -166,98 +131,53 @@ pub fn run_end(text: &[u8], at: usize, white: bool) -> usize
     any_end(text, at, false)
 }
 
-// The place of the first `]` from `at` on, or the text's end.
-fn find_end(text: &[u8], at: usize) -> usize
-    ensures { result ≡ at + length (up_to cite_end (drop at text.now)) }
-{
-    let mut i = at;
-    while i < text.len() {
-        if text[i] == b']' {
-            return i;
-        }
-        i += 1;
-    }
-    i
-}
-
 // Where the citation's text ends that begins at `at`.
-fn close_at(text: &[u8], at: usize) -> Close
+fn close_at(text: &[u8], at: usize) -> Result<usize, Refusal>
     requires { (at ≤ length text.now) × (is_utf8 (drop at text.now) ≡ true) }
     ensures { Closes text.now at result }
 {
-    let end = find_end(text, at);
-    if text.len() <= end {
-        return Close::Never(Refusal::Unterminated);
-    }
+    let Some(size) = text[at..].iter().position(|&b| b == b']') else {
+        return Err(Refusal::Unterminated);
+    };
+    let end = at + size;
     if run_end(text, at, true) == end {
-        return Close::Never(Refusal::EmptyCondition);
+        return Err(Refusal::EmptyCondition);
     }
-    Close::At(end)
+    Ok(end)
 }
 
 fn part_of(c: u32) -> u8
     ensures { result ≡ part_number (part c) }
 {
-    if c == 0x5B {
-        return CITATION;
+    match c {
+        0x5B => CITATION,
+        0x28 => OPENING,
+        0x29 => CLOSING,
+        0x2227 => AND,
+        0x2228 => OR,
+        0x22BB => XOR,
+        _ if utf8::is_white(c) => WHITE,
+        _ => STRAY,
     }
-    if c == 0x28 {
-        return OPENING;
-    }
-    if c == 0x29 {
-        return CLOSING;
-    }
-    if c == 0x2227 {
-        return AND;
-    }
-    if c == 0x2228 {
-        return OR;
-    }
-    if c == 0x22BB {
-        return XOR;
-    }
-    if utf8::is_white(c) {
-        return WHITE;
-    }
-    STRAY
 }
 
 // The token at `at`, or white space.
-fn token_at(text: &[u8], at: usize) -> Token
+fn token_at(text: &[u8], at: usize) -> Result<Token, Refusal>
     requires { (at < length text.now) × (is_utf8 (drop at text.now) ≡ true) }
     ensures { Begins text.now at result }
 {
-    let here = walker::step_from(text, at);
-    match here {
-        Step::Bad => Token::Stop(Refusal::NotUtf8),
-        Step::End => Token::Stop(Refusal::NotUtf8),
-        Step::Char { code, width } => {
-            let next = at + width;
-            let kind = part_of(code);
-            if kind == CITATION {
-                match close_at(text, next) {
-                    Close::Never(why) => {
-                        return Token::Stop(why);
-                    }
-                    Close::At(end) => {
-                        return Token::Cite {
-                            from: next,
-                            end: end,
-                        };
-                    }
-                }
-            }
-            if kind == WHITE {
-                return Token::Space(next);
-            }
-            if kind == STRAY {
-                return Token::Stop(Refusal::Stray);
-            }
-            Token::Mark {
-                kind: kind,
-                next: next,
-            }
-        }
+    let Step::Char { code, width } = walker::step_from(text, at) else {
+        return Err(Refusal::NotUtf8);
+    };
+    let next = at + width;
+    match part_of(code) {
+        CITATION => Ok(Token::Cite {
+            from: next,
+            end: close_at(text, next)?,
+        }),
+        WHITE => Ok(Token::Space(next)),
+        STRAY => Err(Refusal::Stray),
+        kind => Ok(Token::Mark { kind, next }),
     }
 }
 
@@ -268,91 +188,71 @@ fn depth_after(d: usize, kind: u8) -> usize
     if OPEN_LIMIT < d {
         return d;
     }
-    if kind == OPENING {
-        return d + 1;
+    match kind {
+        OPENING => d + 1,
+        CLOSING => d.saturating_sub(1),
+        _ => d,
     }
-    if kind == CLOSING {
-        if d == 0 {
-            return 0;
-        }
-        return d - 1;
-    }
-    d
 }
 
-// A part of a text as one number.
-fn place(from: usize, end: usize) -> u32
+// The part of a text between two bytes.
+fn place_of(from: usize, end: usize) -> Place
     requires { (from ≤ end) × (end ≤ text_limit) }
     ensures { result ≡ placed from (end - from) }
 {
-    (from * 8192 + (end - from)) as u32
-}
-
-// The first byte's number of a place.
-pub fn start_of(place: u32) -> usize
-    ensures { result ≡ start_of place }
-{
-    (place / 8192) as usize
-}
-
-// How many bytes a place has.
-pub fn size_of(place: u32) -> usize
-    ensures { result ≡ size_of place }
-{
-    (place % 8192) as usize
+    Place {
+        from: from as u16,
+        size: (end - from) as u16,
+    }
 }
 
 // Stores the place of the citation that `m` were counted before, where there is room.
-fn store(places: &mut [u32], m: usize, place: u32)
+fn store(places: &mut [Place], m: usize, place: Place)
     ensures { places.new ≡ set places.old m place }
 {
+    // no `get_mut`: std says nothing of what such a slice ends as
     if m < places.len() {
         places[m] = place;
     }
 }
 
 // One token, or white space.
-fn read_token(text: &[u8], kinds: &mut [u8], places: &mut [u32], p: Count) -> Turn
+fn read_token(
+    text: &[u8],
+    kinds: &mut [u8],
+    places: &mut [Place],
+    p: Count,
+) -> Result<Count, Refusal>
     requires { (length text.now ≤ text_limit) × (length text.now ≤ length kinds.old) × (p.at < length text.now) × State text.now kinds.old places.old p }
     ensures { Turned text.now kinds.old places.old kinds.new places.new p result }
 {
-    let n = p.tokens;
-    let m = p.cites;
-    match token_at(text, p.at) {
-        Token::Stop(why) => Turn::Off(why),
-        Token::Space(next) => Turn::On(Count {
-            at: next,
-            tokens: n,
-            cites: m,
-            bytes: p.bytes,
-            depth: p.depth,
-        }),
+    match token_at(text, p.at)? {
+        Token::Space(next) => Ok(Count { at: next, ..p }),
         Token::Mark { kind, next } => {
-            kinds[n] = kind;
-            Turn::On(Count {
+            kinds[p.tokens] = kind;
+            Ok(Count {
                 at: next,
-                tokens: n + 1,
-                cites: m,
-                bytes: p.bytes,
+                tokens: p.tokens + 1,
                 depth: depth_after(p.depth, kind),
+                ..p
             })
         }
         Token::Cite { from, end } => {
-            kinds[n] = CITATION;
-            store(places, m, place(from, end));
-            Turn::On(Count {
+            kinds[p.tokens] = CITATION;
+            store(places, p.cites, place_of(from, end));
+            Ok(Count {
                 at: end + 1,
-                tokens: n + 1,
-                cites: m + 1,
+                tokens: p.tokens + 1,
+                cites: p.cites + 1,
                 bytes: p.bytes + (end - from),
-                depth: p.depth,
+                ..p
             })
         }
     }
 }
 
 // The tokens of a whole text, or the leftmost refusal.
-fn lex_all(text: &[u8], kinds: &mut [u8], places: &mut [u32]) -> Turn
+fn lex_all(text: &[u8], kinds: &mut [u8], places: &mut [Place]) -> Result<Count, Refusal>
     requires { (length text.now ≤ text_limit) × (length text.now ≤ length kinds.old) × (is_utf8 text.now ≡ true) }
     ensures { Ends text.now kinds.old places.old kinds.new places.new result }
 {
@@ -363,53 +263,41 @@ fn lex_all(text: &[u8], kinds: &mut [u8], places: &mut [u32]) -> Turn
         bytes: 0,
         depth: 0,
     };
+    // A step is as wide as a token.
     while p.at < text.len() {
-        match read_token(text, kinds, places, p) {
-            Turn::Off(why) => {
-                return Turn::Off(why);
-            }
-            Turn::On(q) => {
-                p = q;
-            }
-        }
+        p = read_token(text, kinds, places, p)?;
     }
-    Turn::On(p)
+    Ok(p)
 }
 
 // The tests 6, 12 and 13.
-fn limited(p: Count) -> Lexed
-    ensures { lexed_said result ≡ counts_limited p }
+fn limited(p: Count) -> Result<Lexed, Refusal>
+    ensures { result ≡ counts_limited p }
 {
     if p.tokens == 0 {
-        return Lexed::Refused(Refusal::Empty);
+        return Err(Refusal::Empty);
     }
-    if CITATION_LIMIT < p.cites {
-        return Lexed::Refused(Refusal::TooManyCitations);
-    }
-    if CITED_LIMIT < p.bytes {
-        return Lexed::Refused(Refusal::TooManyCitations);
+    if CITATION_LIMIT < p.cites || CITED_LIMIT < p.bytes {
+        return Err(Refusal::TooManyCitations);
     }
     if OPEN_LIMIT < p.depth {
-        return Lexed::Refused(Refusal::TooDeep);
+        return Err(Refusal::TooDeep);
     }
-    Lexed::Tokens {
+    Ok(Lexed {
         tokens: p.tokens,
         cites: p.cites,
         bytes: p.bytes,
-    }
+    })
 }
 
 // The tokens of a text, those in front of the leftmost refusal if there is one: the kind of each in `kinds`, the places of the citations' texts in `places`, as many as have room there.
-pub fn lex(text: &[u8], kinds: &mut [u8], places: &mut [u32]) -> Lexed
+pub fn lex(text: &[u8], kinds: &mut [u8], places: &mut [Place]) -> Result<Lexed, Refusal>
     requires { (length text.now ≤ text_limit) × (length text.now ≤ length kinds.old) × (is_utf8 text.now ≡ true) }
-    ensures result_value { lexed_said result ≡ map_ok counted (tokenized (decode text.now)) }
+    ensures result_value { result ≡ map_ok counted (tokenized (decode text.now)) }
     ensures kinds_after { kinds.new ≡ over (kinds_of (scanned (scan 0 (decode text.now)))) kinds.old }
     ensures places_after { places.new ≡ over (take (length places.old) (places_in (scan 0 (decode text.now)))) places.old }
 {
-    match lex_all(text, kinds, places) {
-        Turn::Off(why) => Lexed::Refused(why),
-        Turn::On(p) => limited(p),
-    }
+    limited(lex_all(text, kinds, places)?)
 }
 
 // The first word of a text; an empty part at its end if it has none.
@@ -418,54 +306,7 @@ pub fn first_word(text: &[u8]) -> Span
 {
     let from = run_end(text, 0, true);
     let end = run_end(text, from, false);
-    Span {
-        from: from,
-        end: end,
-    }
-}
-
-// Copies `len` bytes of `text` from `from` on to `to`; most often one byte.
-fn copy_part(text: &[u8], from: usize, len: usize, out: &mut [u8], to: usize)
-    requires { (from + len ≤ length text.now) × (to + len ≤ length out.old) }
-    ensures { Appended (take len (drop from text.now)) to out.old out.new (to + len) }
-{
-    if len == 1 {
-        out[to] = text[from];
-        return;
-    }
-    let mut j = 0;
-    while j < len {
-        out[to + j] = text[from + j];
-        j += 1;
-    }
-}
-
-// Copies the word that begins at `at` to `to`; the place after it in `text`.
-fn copy_word(text: &[u8], at: usize, out: &mut [u8], to: usize) -> usize
-    requires { to + (run_end false text.now at - at) ≤ length out.old }
-    ensures value { result ≡ run_end false text.now at }
-    ensures appended { Appended (take (result - at) (drop at text.now)) to out.old out.new (to + (result - at)) }
-{
-    let mut i = at;
-    while i < text.len() {
-        let here = utf8::step_at(text, i);
-        match here {
-            Step::Char { code, width } => {
-                if utf8::is_white(code) {
-                    return i;
-                }
-                copy_part(text, i, width, out, to + (i - at));
-                i += width;
-            }
-            Step::Bad => {
-                return i;
-            }
-            Step::End => {
-                return i;
-            }
-        }
-    }
-    i
+    Span { from, end }
 }
 
 // A space after the `n` bytes of joined words, if there are any; how many bytes are then written.
@@ -488,10 +329,11 @@ pub fn join_words(text: &[u8], from: usize, out: &mut [u8]) -> usize
 {
     let mut at = run_end(text, from, true);
     let mut n = 0;
+    // A step is as wide as a word and the white space after it.
     while at < text.len() {
         let to = add_gap(out, n);
-        let end = copy_word(text, at, out, to);
-        n = to + (end - at);
+        let end = run_end(text, at, false);
+        n = put_text(&text[at..end], out, to);
         at = run_end(text, end, true);
     }
     n

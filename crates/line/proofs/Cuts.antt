@@ -1,4 +1,5 @@
 -- What decides of the three lines. Assumes nothing.
+use Rattle.std.specs.Prelude.{Result, Ok, Err}
 use mathlib.Core.Path.{◌≡◌, refl, sym, ap, ◌∙◌}
 use mathlib.Core.List.{List}
 use mathlib.Core.Bool.{Bool, true, false}
@@ -8,7 +9,7 @@ use lib.Dec.{leb}
 use lib.ListN.{length, take}
 use lib.Seq.{take_all, length-take-le}
 use borrow.Author.Tests.{leb-true, leb-false, lt-leb, ne_eqb}
-use Rattle.refusal.specs.Result.{Result, ok, refused, unless, then, map_ok}
+use Rattle.refusal.specs.Result.{unless, then, map_ok}
 use Rattle.refusal.specs.declared.Refusal.{Refusal}
 use Rattle.refusal.specs.declared.Refusal.TheVariants.{WrongAnswers}
 use Rattle.utf8.specs.Utf8.{is_utf8, decode}
@@ -30,7 +31,7 @@ use Rattle.line.specs.Lines.{answer_bytes, tree_lines, judged_lines, stated_line
 use Rattle.line.proofs.Texts.{answers_length}
 
 -- one byte more than is admitted decides as the whole does
-cut-admitted : {A : Type 0} (most : ℕ) (t : List ℕ) (f : List ℕ → Result A) → admitted most (take (suc most) t) (f (take (suc most) t)) ≡ admitted most t (f t)
+cut-admitted : {A : Type 0} (most : ℕ) (t : List ℕ) (f : List ℕ → Result A Refusal) → admitted most (take (suc most) t) (f (take (suc most) t)) ≡ admitted most t (f t)
 cut-admitted {A} most t f = by (leb (length t) most) refl
   where
     by : (b : Bool) → leb (length t) most ≡ b → admitted most (take (suc most) t) (f (take (suc most) t)) ≡ admitted most t (f t)
@@ -43,12 +44,12 @@ cut_status : (s : List ℕ) → status_reading (take kept_status s) ≡ status_r
 unfolding status_reading
 cut_status s = cut-admitted text_limit s (λ x. of_words (words (decode x)))
 
-map-unless : {A B : Type 0} (f : A → B) (t : Bool) (why : Refusal) (r : Result A) → map_ok f (unless t why r) ≡ unless t why (map_ok f r)
+map-unless : {A B : Type 0} (f : A → B) (t : Bool) (why : Refusal) (r : Result A Refusal) → map_ok f (unless t why r) ≡ unless t why (map_ok f r)
 unfolding map_ok
 map-unless f true why r = refl
 map-unless f false why r = refl
 
-map-admitted : {A B : Type 0} (f : A → B) (most : ℕ) (t : List ℕ) (r : Result A) → map_ok f (admitted most t r) ≡ admitted most t (map_ok f r)
+map-admitted : {A B : Type 0} (f : A → B) (most : ℕ) (t : List ℕ) (r : Result A Refusal) → map_ok f (admitted most t r) ≡ admitted most t (map_ok f r)
 unfolding admitted
 map-admitted f most t r = map-unless f (leb (length t) most) _ _ ∙ ap (unless (leb (length t) most) _) (map-unless f (is_utf8 t) _ r)
 
@@ -58,14 +59,14 @@ unfit e c f h = rw (ne_eqb (length c) (count e) (λ q. omega (arith, q, h, f.few
 
 module _ (k : StatusKind) (e : Expr) (fit : Fits e) where
   -- the lines once the answers and the value are admitted
-  abbrev said : (c v : List ℕ) → Result (List ℕ)
+  abbrev said : (c v : List ℕ) → Result (List ℕ) Refusal
   said c v = map_ok (λ (both : Truth × Truth). tree_lines k e v both.0 both.1) (map_ok (λ p. (p, truth v e)) (presence_by c e))
 
   judged_is : (c v : List ℕ) → judged_lines k (bytes_of e) e c v ≡ unless (answers_fit e c) WrongAnswers (admitted value_limit v (said c v))
   unfolding judged_lines eval_and_truth_answer then
   judged_is c v =
       let f : Truth × Truth → List ℕ = λ both. tree_lines k e v both.0 both.1 in
-      let r : Result (Truth × Truth) = map_ok (λ p. (p, truth v e)) (presence_by c e) in
+      let r : Result (Truth × Truth) Refusal = map_ok (λ p. (p, truth v e)) (presence_by c e) in
       rw (tree_of_bytes e fit) (map-unless f (answers_fit e c) WrongAnswers (admitted value_limit v r) ∙ ap (unless (answers_fit e c) WrongAnswers) (map-admitted f value_limit v r))
 
   cut-value : (c v : List ℕ) → judged_lines k (bytes_of e) e c (take kept_value v) ≡ judged_lines k (bytes_of e) e c v
@@ -84,11 +85,11 @@ module _ (k : StatusKind) (e : Expr) (fit : Fits e) where
           judged_is (answer_bytes (take kept_answers a)) v ∙ ap (λ x. unless x WrongAnswers (admitted value_limit v (said (answer_bytes (take kept_answers a)) v))) cut
           ∙ sym (judged_is (answer_bytes a) v ∙ ap (λ x. unless x WrongAnswers (admitted value_limit v (said (answer_bytes a) v))) all)
 
-cut_stated : (s a v : List ℕ) (x : Result Stated) → status_reading s ≡ x → then x (λ t. stated_lines t (take kept_answers a) (take kept_value v)) ≡ then x (λ t. stated_lines t a v)
+cut_stated : (s a v : List ℕ) (x : Result Stated Refusal) → status_reading s ≡ x → then x (λ t. stated_lines t (take kept_answers a) (take kept_value v)) ≡ then x (λ t. stated_lines t a v)
 unfolding then stated_lines
-cut_stated s a v (refused j) q = refl
-cut_stated s a v (ok (alone k)) q = refl
-cut_stated s a v (ok (stated k e)) q =
+cut_stated s a v (Err j) q = refl
+cut_stated s a v (Ok (alone k)) q = refl
+cut_stated s a v (Ok (stated k e)) q =
     let fit = read_fits e (after_status s k e q) in
     cut-value k e fit (answer_bytes (take kept_answers a)) v ∙ cut_answers k e fit a v
 

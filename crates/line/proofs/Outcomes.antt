@@ -1,4 +1,5 @@
 -- What the answers of reading, printing, packages and verdicts mean for the lines. Assumes nothing.
+use Rattle.std.specs.Prelude.{Result, Ok, Err, Option, Some, None}
 use mathlib.Core.Path.{◌≡◌, refl, sym, ap, ◌∙◌, subst}
 use mathlib.Core.List.{List, ◌++◌}
 use mathlib.Core.Bool.{true}
@@ -6,7 +7,7 @@ use Prim.Native.Nat.{ℕ, ◌*◌, ◌≤◌, ◌<◌}
 use native.Mathlib.Omega.{arith}
 use lib.ListN.{length, take, drop, length-append}
 use lib.Seq.{take-append_seam}
-use Rattle.refusal.specs.Result.{Result, ok, refused, refuse, unless, then, map_ok, refused≢ok, unless_ok}
+use Rattle.refusal.specs.Result.{unless, then, map_ok, err≢ok, unless_ok}
 use Rattle.refusal.specs.Refusals.{number_of}
 use Rattle.refusal.specs.declared.Refusal.{Refusal}
 use Rattle.refusal.specs.declared.Refusal.TheVariants.{NoRoom, WrongAnswers}
@@ -21,7 +22,7 @@ use Rattle.grammar.specs.Status.{Stated, alone, stated, status_reading}
 use Rattle.grammar.specs.Bytes.{cites, texts_in, is_tree, tree_at, bytes_of, tree_limit}
 use Rattle.grammar.specs.Theorems.{after_status}
 use Rattle.grammar.proofs.Theorems.{read_fits, print_short, few_bytes, is_tree_lem, tree_of_bytes}
-use Rattle.grammar.specs.Outcome.{Written, Outcome, answer_of, written_of, with_length, display_answer, word_alone, with_tree, stated_bytes, status_answer}
+use Rattle.grammar.specs.Outcome.{Written, Outcome, answer_of, written_of, with_length, display_answer, stated_bytes, status_answer, StatusSaid}
 use Rattle.grammar.proofs.Outcome.{answer_fits, written_fits, answer_short, written_short}
 use Rattle.semantics.specs.Presence.{answers_fit}
 use Rattle.semantics.specs.Truth.{counts_on, truth}
@@ -34,15 +35,6 @@ use Rattle.fields.proofs.Appends.{same, whole}
 use Rattle.tree.proofs.Walks.{root}
 use Rattle.presence.proofs.Answers.{fit_count}
 use Rattle.verdicts.proofs.Laws.{both_unfit}
-use Rattle.printer.specs.Said.{display_said}
-use Rattle.printer.specs.declared.Displayed.{Displayed}
-use Rattle.packages.specs.Said.{pakete_said}
-use Rattle.packages.specs.declared.PaketeAnswer.{PaketeAnswer}
-use Rattle.verdicts.specs.Said.{violations_said}
-use Rattle.verdicts.specs.declared.ViolationsAnswer.{ViolationsAnswer}
-use Rattle.reader.specs.Said.{status_said}
-use Rattle.reader.specs.declared.StatusAnswer.{StatusAnswer}
-use Rattle.reader.specs.declared.StatusAnswer.TheVariants as status
 use Rattle.line.specs.Sizes.{longest_rows, longest_list, longest_named}
 use Rattle.line.specs.Lines.{answer_bytes, figures, named, line, alone_lines, tree_lines, judged_lines, stated_lines, shown, lines, report_answer}
 use Rattle.line.specs.Parts.{numbers_from, AllBelow, Admitted}
@@ -51,16 +43,16 @@ use Rattle.line.proofs.Named.{numbers_got, listed}
 
 module _ {A : Type 0} where
   -- the answer of a call whose result has room
-  settled : (o : Outcome A) (w : Written A) (old new : List ℕ) (r : Result A) → o ≡ ok w → length w.bytes ≤ length old → r ≡ answer_of o (length old) → new ≡ written_of o old
-      → (r ≡ ok w.answer) × (new ≡ w.bytes ++ drop (length w.bytes) old)
+  settled : (o : Outcome A) (w : Written A) (old new : List ℕ) (r : Result A Refusal) → o ≡ Ok w → length w.bytes ≤ length old → r ≡ answer_of o (length old) → new ≡ written_of o old
+      → (r ≡ Ok w.answer) × (new ≡ w.bytes ++ drop (length w.bytes) old)
   settled o w old new r e h f g =
       (f ∙ ap (λ x. answer_of x (length old)) e ∙ answer_fits w (length old) h, g ∙ ap (λ x. written_of x old) e ∙ written_fits w old h)
 
-  same_ok : {a b : A} → ok a ≡ ok b → a ≡ b
+  same_ok : {a b : A} → ◌≡◌ {A = Result A Refusal} (Ok a) (Ok b) → a ≡ b
   same_ok h = cc
 
-  same_number : {m n : ℕ} → ◌≡◌ {A = Result A} (refused m) (refused n) → m ≡ n
-  same_number h = cc
+  same_number : {m n : Refusal} → ◌≡◌ {A = Result A Refusal} (Err m) (Err n) → number_of m ≡ number_of n
+  same_number {m} {n} h = let e : m ≡ n = cc in ap number_of e
 
 front : (l b rest : List ℕ) (n : ℕ) → l ≡ b ++ rest → n ≡ length b → take n l ≡ b
 front l b rest n e h = ap (λ (x : ℕ). take x l) h ∙ ap (take (length b)) e ∙ take-append_seam b rest
@@ -69,11 +61,11 @@ module _ (b : List ℕ) (tree : is_tree b ≡ true) where
   abbrev e : Expr
   e = tree_at b 0
 
-  display_is : display_answer b ≡ ok (with_length (printed e))
+  display_is : display_answer b ≡ Ok (with_length (printed e))
   unfolding display_answer map_ok
   display_is = rw (root b tree).is
 
-  pakete_is : pakete_answer b ≡ ok (rowed (pakete e))
+  pakete_is : pakete_answer b ≡ Ok (rowed (pakete e))
   unfolding pakete_answer map_ok
   pakete_is = rw (root b tree).is
 
@@ -83,32 +75,32 @@ module _ (b : List ℕ) (tree : is_tree b ≡ true) where
 
   module _ (old new : List ℕ) where
     -- the print
-    pub printed_into : (o : Displayed) → print_limit ≤ length old → display_said o ≡ answer_of (display_answer b) (length old) → new ≡ written_of (display_answer b) old
-        → (display_said o ≡ ok (length (printed e))) × ((n : ℕ) → n ≡ length (printed e) → (n ≤ print_limit) × (take n new ≡ printed e))
+    pub printed_into : (o : Result ℕ Refusal) → print_limit ≤ length old → o ≡ answer_of (display_answer b) (length old) → new ≡ written_of (display_answer b) old
+        → (o ≡ Ok (length (printed e))) × ((n : ℕ) → n ≡ length (printed e) → (n ≤ print_limit) × (take n new ≡ printed e))
     printed_into o room f g =
         let short = print_short e (root b tree).fits in
-        let s = settled (display_answer b) (with_length (printed e)) old new (display_said o) display_is (omega (arith, short)) f g in
+        let s = settled (display_answer b) (with_length (printed e)) old new o display_is (omega (arith, short)) f g in
         (s.0, λ n h. (omega (arith, h, short), front new (printed e) (drop (length (printed e)) old) n s.1 h))
 
     -- the number of package rows
-    pub rows_counted : (o : PaketeAnswer) → longest_rows ≤ length old → pakete_said o ≡ answer_of (pakete_answer b) (length old) → new ≡ written_of (pakete_answer b) old
-        → (pakete_said o ≡ ok (length (pakete e))) × ((n : ℕ) → n ≡ length (pakete e) → (n ≤ citation_limit) × (n ≡ length (pakete e)))
+    pub rows_counted : (o : Result ℕ Refusal) → longest_rows ≤ length old → o ≡ answer_of (pakete_answer b) (length old) → new ≡ written_of (pakete_answer b) old
+        → (o ≡ Ok (length (pakete e))) × ((n : ℕ) → n ≡ length (pakete e) → (n ≤ citation_limit) × (n ≡ length (pakete e)))
     rows_counted o room f g =
-        let s = settled (pakete_answer b) (rowed (pakete e)) old new (pakete_said o) pakete_is (omega (arith, pakete_size.0, pakete_size.1)) f g in
+        let s = settled (pakete_answer b) (rowed (pakete e)) old new o pakete_is (omega (arith, pakete_size.0, pakete_size.1)) f g in
         (s.0, λ n h. (omega (arith, h, pakete_size.1), h))
 
     module _ (value : List ℕ) (a : Admitted value) where
-      violations_is : violations_answer b value ≡ ok (numbered (violations value e))
+      violations_is : violations_answer b value ≡ Ok (numbered (violations value e))
       unfolding violations_answer then
       violations_is = rw (root b tree).is (fits value_limit value _ a)
 
       -- the numbers of the violated citations
-      pub violations_listed : (o : ViolationsAnswer) → longest_list ≤ length old → violations_said o ≡ answer_of (violations_answer b value) (length old) → new ≡ written_of (violations_answer b value) old
-          → (violations_said o ≡ ok (length (violations value e))) × ((n : ℕ) → n ≡ length (violations value e) → (n ≤ citation_limit) × (numbers_from new n 0 ≡ violations value e))
+      pub violations_listed : (o : Result ℕ Refusal) → longest_list ≤ length old → o ≡ answer_of (violations_answer b value) (length old) → new ≡ written_of (violations_answer b value) old
+          → (o ≡ Ok (length (violations value e))) × ((n : ℕ) → n ≡ length (violations value e) → (n ≤ citation_limit) × (numbers_from new n 0 ≡ violations value e))
       violations_listed o room f g =
           let ns = violations value e in
           let l = listed (counts_on value) e (root b tree).fits in
-          let s = settled (violations_answer b value) (numbered ns) old new (violations_said o) violations_is (omega (arith, numbers_length ns, l.few)) f g in
+          let s = settled (violations_answer b value) (numbered ns) old new o violations_is (omega (arith, numbers_length ns, l.few)) f g in
           (s.0, λ n h. (omega (arith, h, l.few), ap (λ (x : ℕ). numbers_from new x 0) h ∙ numbers_got new (drop (length (number_bytes ns)) old) ns 0 s.1))
 
   -- what holds of the violations' numbers, by the texts of the tree
@@ -121,93 +113,94 @@ module _ (b : List ℕ) (tree : is_tree b ≡ true) where
 
 module _ {A : Type 0} {a : A} {Goal : Type 0} where
   -- an answer that is none of the refusals
-  pub never : (r : Result A) {n : ℕ} → r ≡ ok a → r ≡ refused n → Goal
-  never r h k = absurd (refused≢ok (sym k ∙ h))
+  pub never : (r : Result A Refusal) {why : Refusal} → r ≡ Ok a → r ≡ Err why → Goal
+  never r h k = absurd (err≢ok (sym k ∙ h))
 
 -- a count by an answer that is one
-pub counted : (r : Result ℕ) (n m : ℕ) → r ≡ ok m → r ≡ ok n → n ≡ m
+pub counted : (r : Result ℕ Refusal) (n m : ℕ) → r ≡ Ok m → r ≡ Ok n → n ≡ m
 counted r n m h k = same_ok (sym k ∙ h)
 
 module _ (k : StatusKind) (b codes value : List ℕ) (tree : is_tree b ≡ true) where
-  judged_by_lem : (x : Result (Truth × Truth)) → eval_and_truth_answer b codes value ≡ x → judged_lines k b (tree_at b 0) codes value ≡ map_ok (λ both. tree_lines k (tree_at b 0) value both.0 both.1) x
+  judged_by_lem : (x : Result (Truth × Truth) Refusal) → eval_and_truth_answer b codes value ≡ x → judged_lines k b (tree_at b 0) codes value ≡ map_ok (λ both. tree_lines k (tree_at b 0) value both.0 both.1) x
   unfolding judged_lines
   judged_by_lem x h = ap (map_ok (λ both. tree_lines k (tree_at b 0) value both.0 both.1)) h
 
   -- a refusal by the tree
-  pub judged_refused : (why : Refusal) → eval_and_truth_answer b codes value ≡ refuse why → line "refused " (figures (number_of why)) ≡ shown (judged_lines k b (tree_at b 0) codes value)
+  pub judged_refused : (why : Refusal) → eval_and_truth_answer b codes value ≡ Err why → line "refused " (figures (number_of why)) ≡ shown (judged_lines k b (tree_at b 0) codes value)
   unfolding map_ok
-  judged_refused why h = sym (ap shown (judged_by_lem (refuse why) h))
+  judged_refused why h = sym (ap shown (judged_by_lem (Err why) h))
 
   -- both truths
-  pub judged_done : (p f : Truth) → eval_and_truth_answer b codes value ≡ ok (p, f) → tree_lines k (tree_at b 0) value p f ≡ shown (judged_lines k b (tree_at b 0) codes value)
+  pub judged_done : (p f : Truth) → eval_and_truth_answer b codes value ≡ Ok (p, f) → tree_lines k (tree_at b 0) value p f ≡ shown (judged_lines k b (tree_at b 0) codes value)
   unfolding map_ok
-  judged_done p f h = sym (ap shown (judged_by_lem (ok (p, f)) h))
+  judged_done p f h = sym (ap shown (judged_by_lem (Ok (p, f)) h))
 
   -- the value was admitted
-  pub judged-admitted : (p f : Truth) → eval_and_truth_answer b codes value ≡ ok (p, f) → Admitted value
+  pub judged-admitted : (p f : Truth) → eval_and_truth_answer b codes value ≡ Ok (p, f) → Admitted value
   unfolding eval_and_truth_answer then
   judged-admitted p f h =
       let e = tree_at b 0 in
-      let r : Result (Truth × Truth) = map_ok (λ q. (q, truth value e)) (presence_by codes e) in
-      let g : unless (answers_fit e codes) WrongAnswers (admitted value_limit value r) ≡ ok (p, f) = rw (root b tree).is at h in
+      let r : Result (Truth × Truth) Refusal = map_ok (λ q. (q, truth value e)) (presence_by codes e) in
+      let g : unless (answers_fit e codes) WrongAnswers (admitted value_limit value r) ≡ Ok (p, f) = rw (root b tree).is at h in
       let u = unless_ok (answers_fit e codes) WrongAnswers (admitted value_limit value r) (p, f) g in
       (admitted_ok value_limit value r (p, f) u.1).0
 
 -- more letters than there can be citations: 16
-pub too_many : (b answers value : List ℕ) → is_tree b ≡ true → citation_limit < length answers → eval_and_truth_answer b (answer_bytes answers) value ≡ refuse WrongAnswers
+pub too_many : (b answers value : List ℕ) → is_tree b ≡ true → citation_limit < length answers → eval_and_truth_answer b (answer_bytes answers) value ≡ Err WrongAnswers
 too_many b answers value h l =
     let r = root b h in
     sym (both_unfit b (answer_bytes answers) value h (sym (fit_count b (answer_bytes answers) h (λ q. omega (arith, q, l, answers_length answers, r.counts, r.fits.few)))))
 
-module _ (s a v old new : List ℕ) (o : StatusAnswer) (room : tree_limit ≤ length old) (f : status_said o ≡ answer_of (status_answer s) (length old)) (g : new ≡ written_of (status_answer s) old) where
+module _ (s a v old new : List ℕ) (o : Result StatusSaid Refusal) (room : tree_limit ≤ length old) (f : o ≡ answer_of (status_answer s) (length old)) (g : new ≡ written_of (status_answer s) old) where
   -- the answer and the lines, by what the status reads as
-  abbrev Meets : Result Stated → Type 0
-  Meets (refused j) = (status_said o ≡ refused j) × (lines s a v ≡ line "refused " (figures j))
-  Meets (ok (alone k)) = (status_said o ≡ ok (word_alone k)) × (lines s a v ≡ alone_lines k)
-  Meets (ok (stated k e)) =
-      (status_said o ≡ ok (with_tree k (length (bytes_of e)))) × (new ≡ bytes_of e ++ drop (length (bytes_of e)) old) × Fits e × (lines s a v ≡ shown (judged_lines k (bytes_of e) e (answer_bytes a) v))
+  abbrev Meets : Result Stated Refusal → Type 0
+  Meets (Err j) = (o ≡ Err j) × (lines s a v ≡ line "refused " (figures (number_of j)))
+  Meets (Ok (alone k)) = (o ≡ Ok (k, None)) × (lines s a v ≡ alone_lines k)
+  Meets (Ok (stated k e)) =
+      (o ≡ Ok (k, Some (length (bytes_of e)))) × (new ≡ bytes_of e ++ drop (length (bytes_of e)) old) × Fits e × (lines s a v ≡ shown (judged_lines k (bytes_of e) e (answer_bytes a) v))
 
-  lines_by : (x : Result Stated) → status_reading s ≡ x → lines s a v ≡ shown (then x (λ t. stated_lines t a v))
+  lines_by : (x : Result Stated Refusal) → status_reading s ≡ x → lines s a v ≡ shown (then x (λ t. stated_lines t a v))
   unfolding lines
   lines_by x q = ap (λ y. shown (then y (λ t. stated_lines t a v))) q
 
-  answer_by : (x : Result Stated) → status_reading s ≡ x → status_answer s ≡ map_ok stated_bytes x
+  answer_by : (x : Result Stated Refusal) → status_reading s ≡ x → status_answer s ≡ map_ok stated_bytes x
   unfolding status_answer
   answer_by x q = ap (map_ok stated_bytes) q
 
-  meets : (x : Result Stated) → status_reading s ≡ x → Meets x
+  meets : (x : Result Stated Refusal) → status_reading s ≡ x → Meets x
   unfolding map_ok then stated_lines answer_of
-  meets (refused j) q = (f ∙ ap (λ y. answer_of y (length old)) (answer_by (refused j) q), lines_by (refused j) q)
-  meets (ok (alone k)) q =
-      let r = settled (status_answer s) (stated_bytes (alone k)) old new (status_said o) (answer_by (ok (alone k)) q) (omega arith) f g in
-      (r.0, lines_by (ok (alone k)) q)
-  meets (ok (stated k e)) q =
+  meets (Err j) q = (f ∙ ap (λ y. answer_of y (length old)) (answer_by (Err j) q), lines_by (Err j) q)
+  meets (Ok (alone k)) q =
+      let r = settled (status_answer s) (stated_bytes (alone k)) old new o (answer_by (Ok (alone k)) q) (omega arith) f g in
+      (r.0, lines_by (Ok (alone k)) q)
+  meets (Ok (stated k e)) q =
       let fit = read_fits e (after_status s k e q) in
-      let r = settled (status_answer s) (stated_bytes (stated k e)) old new (status_said o) (answer_by (ok (stated k e)) q) (omega (arith, few_bytes e fit)) f g in
-      (r.0, r.1, fit, lines_by (ok (stated k e)) q)
+      let r = settled (status_answer s) (stated_bytes (stated k e)) old new o (answer_by (Ok (stated k e)) q) (omega (arith, few_bytes e fit)) f g in
+      (r.0, r.1, fit, lines_by (Ok (stated k e)) q)
 
   -- a status that is turned back
-  pub status_refused : (why : Refusal) → o ≡ status.Refused why → line "refused " (figures (number_of why)) ≡ lines s a v
+  pub status_refused : (why : Refusal) → o ≡ Err why → line "refused " (figures (number_of why)) ≡ lines s a v
   status_refused why e = by (status_reading s) refl
     where
-      by : (x : Result Stated) → status_reading s ≡ x → line "refused " (figures (number_of why)) ≡ lines s a v
-      by (refused j) q = let m = meets (refused j) q in ap (λ (n : ℕ). line "refused " (figures n)) (same_number (sym (ap status_said e) ∙ m.0)) ∙ sym m.1
-      by (ok (alone k)) q = absurd (refused≢ok (sym (ap status_said e) ∙ (meets (ok (alone k)) q).0))
-      by (ok (stated k t)) q = absurd (refused≢ok (sym (ap status_said e) ∙ (meets (ok (stated k t)) q).0))
+      by : (x : Result Stated Refusal) → status_reading s ≡ x → line "refused " (figures (number_of why)) ≡ lines s a v
+      by (Err j) q = let m = meets (Err j) q in ap (λ (n : ℕ). line "refused " (figures n)) (same_number (sym e ∙ m.0)) ∙ sym m.1
+      by (Ok (alone k)) q = absurd (err≢ok (sym e ∙ (meets (Ok (alone k)) q).0))
+      by (Ok (stated k t)) q = absurd (err≢ok (sym e ∙ (meets (Ok (stated k t)) q).0))
 
   -- a word alone
-  pub status_alone : (k : StatusKind) → o ≡ status.Alone k → alone_lines k ≡ lines s a v
+  pub status_alone : (k : StatusKind) → o ≡ Ok (k, None) → alone_lines k ≡ lines s a v
   status_alone k e = by (status_reading s) refl
     where
-      by : (x : Result Stated) → status_reading s ≡ x → alone_lines k ≡ lines s a v
-      by (refused j) q = absurd (refused≢ok (sym (meets (refused j) q).0 ∙ ap status_said e))
-      by (ok (alone j)) q =
-          let m = meets (ok (alone j)) q in
-          let w : word_alone k ≡ word_alone j = same_ok (sym (ap status_said e) ∙ m.0) in
-          let same : k ≡ j = cc in
+      by : (x : Result Stated Refusal) → status_reading s ≡ x → alone_lines k ≡ lines s a v
+      by (Err j) q = absurd (err≢ok (sym (meets (Err j) q).0 ∙ e))
+      by (Ok (alone j)) q =
+          let m = meets (Ok (alone j)) q in
+          let w : ◌≡◌ {A = StatusSaid} (k, None) (j, None) = same_ok (sym e ∙ m.0) in
+          let same : k ≡ j = ap (λ (x : StatusSaid). x.0) w in
           ap alone_lines same ∙ sym m.1
-      by (ok (stated j t)) q =
-          let w : word_alone k ≡ with_tree j (length (bytes_of t)) = same_ok (sym (ap status_said e) ∙ (meets (ok (stated j t)) q).0) in
+      by (Ok (stated j t)) q =
+          let w : ◌≡◌ {A = StatusSaid} (k, None) (j, Some (length (bytes_of t))) = same_ok (sym e ∙ (meets (Ok (stated j t)) q).0) in
+          let none : ◌≡◌ {A = Option ℕ} None (Some (length (bytes_of t))) = ap (λ (x : StatusSaid). x.1) w in
           let z : ◌≡◌ {A = ℕ} 0 1 = cc in
           absurd (omega arith)
 
@@ -229,29 +222,31 @@ module _ (s a v old new : List ℕ) (o : StatusAnswer) (room : tree_limit ≤ le
         says = ap (λ x. shown (judged_lines k x (tree_at x 0) (answer_bytes a) v)) is ∙ ap (λ x. shown (judged_lines k b x (answer_bytes a) v)) at0 ∙ sym l;
       }
 
-  pub status_tree : (k : StatusKind) (n : ℕ) → o ≡ status.Tree k n → Treed k n
+  pub status_tree : (k : StatusKind) (n : ℕ) → o ≡ Ok (k, Some n) → Treed k n
   status_tree k n e = by (status_reading s) refl
     where
-      by : (x : Result Stated) → status_reading s ≡ x → Treed k n
-      by (refused j) q = absurd (refused≢ok (sym (meets (refused j) q).0 ∙ ap status_said e))
-      by (ok (alone j)) q =
-          let w : with_tree k n ≡ word_alone j = same_ok (sym (ap status_said e) ∙ (meets (ok (alone j)) q).0) in
+      by : (x : Result Stated Refusal) → status_reading s ≡ x → Treed k n
+      by (Err j) q = absurd (err≢ok (sym (meets (Err j) q).0 ∙ e))
+      by (Ok (alone j)) q =
+          let w : ◌≡◌ {A = StatusSaid} (k, Some n) (j, None) = same_ok (sym e ∙ (meets (Ok (alone j)) q).0) in
+          let none : ◌≡◌ {A = Option ℕ} (Some n) None = ap (λ (x : StatusSaid). x.1) w in
           let z : ◌≡◌ {A = ℕ} 0 1 = cc in
           absurd (omega arith)
-      by (ok (stated j t)) q =
-          let m = meets (ok (stated j t)) q in
-          let w : with_tree k n ≡ with_tree j (length (bytes_of t)) = same_ok (sym (ap status_said e) ∙ m.0) in
-          let kind : j ≡ k = cc in
+      by (Ok (stated j t)) q =
+          let m = meets (Ok (stated j t)) q in
+          let w : ◌≡◌ {A = StatusSaid} (k, Some n) (j, Some (length (bytes_of t))) = same_ok (sym e ∙ m.0) in
+          let kind : j ≡ k = ap (λ (x : StatusSaid). x.0) (sym w) in
+          let some : ◌≡◌ {A = Option ℕ} (Some n) (Some (length (bytes_of t))) = ap (λ (x : StatusSaid). x.1) w in
           let size : n ≡ length (bytes_of t) = cc in
           subst (λ x. Treed x n) kind (treed j t n size m.1 m.2 m.3)
 
 module _ (s a v : List ℕ) (out : List ℕ) {n : ℕ} {old new : List ℕ} (w : Appended (lines s a v) 0 old new n) where
-  report_is : report_answer s a v ≡ ok (with_length (lines s a v))
+  report_is : report_answer s a v ≡ Ok (with_length (lines s a v))
   unfolding report_answer
   report_is = refl
 
   -- 14
-  pub report_short : length out < n → record { result_value : refuse NoRoom ≡ answer_of (report_answer s a v) (length out); out_after : out ≡ written_of (report_answer s a v) out }
+  pub report_short : length out < n → record { result_value : Err NoRoom ≡ answer_of (report_answer s a v) (length out); out_after : out ≡ written_of (report_answer s a v) out }
   report_short h =
       let l = with_length (lines s a v) in
       let short : length out < length (lines s a v) = omega (arith, h, w.ends) in
@@ -261,12 +256,12 @@ module _ (s a v : List ℕ) (out : List ℕ) {n : ℕ} {old new : List ℕ} (w :
       }
 
   -- the lines
-  pub report_done : {q : ℕ} {after : List ℕ} → n ≤ length out → Appended (take n new) 0 out after q → record { result_value : ok n ≡ answer_of (report_answer s a v) (length out); out_after : after ≡ written_of (report_answer s a v) out }
+  pub report_done : {q : ℕ} {after : List ℕ} → n ≤ length out → Appended (take n new) 0 out after q → record { result_value : Ok n ≡ answer_of (report_answer s a v) (length out); out_after : after ≡ written_of (report_answer s a v) out }
   report_done {q} {after} h p =
       let l = with_length (lines s a v) in
       let size : n ≡ length (lines s a v) = omega (arith, w.ends) in
       let room : length (lines s a v) ≤ length out = omega (arith, h, size) in
       record {
-        result_value = ap ok size ∙ sym (ap (λ x. answer_of x (length out)) report_is ∙ answer_fits l (length out) room);
+        result_value = ap Ok size ∙ sym (ap (λ x. answer_of x (length out)) report_is ∙ answer_fits l (length out) room);
         out_after = whole (same w.has p) ∙ sym (ap (λ x. written_of x out) report_is ∙ written_fits l out room);
       }

@@ -2,7 +2,6 @@
 use Rattle.std.specs.Prelude.{◌≡◌, List, [], ◌∷◌, ◌++◌, cond, ℕ, zero, suc, ◌+◌, ◌≤◌, eqb, ltb, length, take, drop}
 use Rattle.line.specs.Sizes.{kept_status, kept_answers, kept_value}
 use Rattle.line.specs.Lines.{line_feed, lines}
-use Rattle.line.specs.declared.Held.{Held}
 
 -- the first line of an input: it ends before its line feed, or with the input
 unfoldable pub first_line : List ℕ → List ℕ
@@ -58,28 +57,3 @@ fed b h = cond (eqb b line_feed) (record { row = next_row h.row; status = h.stat
 unfoldable pub fed_all : List ℕ → Kept → Kept
 fed_all [] h = h
 fed_all (b ∷ s) h = fed_all s (fed b h)
-
--- what stands in three buffers
-abbrev pub kept_in : Held → (status answers value : List ℕ) → Kept
-kept_in h s a v = record { row = h.row; status = take h.status s; answers = take h.answers a; value = take h.value v }
-
--- what stands behind that
-abbrev pub behind : Held → (status answers value : List ℕ) → Kept
-behind h s a v = record { row = h.row; status = drop h.status s; answers = drop h.answers a; value = drop h.value v }
-
--- the buffers are as long as what decides, and the counts within them
-pub record Buffers (h : Held) (s a v : List ℕ) : Type 0 where
-  pub status_size : length s ≡ kept_status
-  pub answers_size : length a ≡ kept_answers
-  pub value_size : length v ≡ kept_value
-  pub status_in : h.status ≤ kept_status
-  pub answers_in : h.answers ≤ kept_answers
-  pub value_in : h.value ≤ kept_value
-
--- nothing is held yet
-abbrev pub none_held : Held
-none_held = record { row = 0; status = 0; answers = 0; value = 0 }
-
--- buffers as long as what decides
-abbrev pub Sized : (s a v : List ℕ) → Type 0
-Sized s a v = (length s ≡ kept_status) × ((length a ≡ kept_answers) × (length v ≡ kept_value))

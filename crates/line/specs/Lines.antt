@@ -1,7 +1,9 @@
 -- The lines that `ahbline` writes for its three lines (docs/FORMAT.md, 'The report'). Assumes nothing.
-use Rattle.std.specs.Prelude.{List, [], ◌∷◌, ◌++◌, cond, ℕ, ◌+◌, ◌/◌, ◌%◌, eqb, ltb, length, get_or}
+use Rattle.std.specs.Prelude.{List, [], ◌∷◌, ◌++◌, cond, ℕ, ◌+◌, ◌/◌, ◌%◌, eqb, ltb, length, get_or, Result, Ok, Err}
 use Prim.Native.String.{String}
-use Rattle.refusal.specs.Result.{Result, ok, refused, then, map_ok}
+use Rattle.refusal.specs.Refusals.{number_of}
+use Rattle.refusal.specs.declared.Refusal.{Refusal}
+use Rattle.refusal.specs.Result.{then, map_ok}
 use Rattle.citation.specs.declared.Truth.{Truth}
 use Rattle.citation.specs.declared.Truth.TheVariants.{False, Unknown, True, Neutral}
 use Rattle.citation.specs.Truths.{truth_number}
@@ -84,18 +86,18 @@ tree_lines k e value presence format =
     five_lines k (printed e) (truth_name presence) (figures (length (pakete e))) (format_said value format e)
 
 -- those of a status word and tree bytes by answer bytes: 16, the value's 10 and 11, then 7 and 8 as met
-unfoldable pub judged_lines : StatusKind → (tree : List ℕ) → Expr → (answers value : List ℕ) → Result (List ℕ)
+unfoldable pub judged_lines : StatusKind → (tree : List ℕ) → Expr → (answers value : List ℕ) → Result (List ℕ) Refusal
 judged_lines k tree e answers value = map_ok (λ both. tree_lines k e value both.0 both.1) (eval_and_truth_answer tree answers value)
 
 -- the lines of what was stated: a word alone looks at no other line
-unfoldable pub stated_lines : Stated → (answers value : List ℕ) → Result (List ℕ)
-stated_lines (alone k) answers value = ok (alone_lines k)
+unfoldable pub stated_lines : Stated → (answers value : List ℕ) → Result (List ℕ) Refusal
+stated_lines (alone k) answers value = Ok (alone_lines k)
 stated_lines (stated k e) answers value = judged_lines k (bytes_of e) e (answer_bytes answers) value
 
 -- a refusal is one line
-abbrev pub shown : Result (List ℕ) → List ℕ
-shown (ok l) = l
-shown (refused n) = line "refused " (figures n)
+abbrev pub shown : Result (List ℕ) Refusal → List ℕ
+shown (Ok l) = l
+shown (Err why) = line "refused " (figures (number_of why))
 
 -- the lines for the three lines: the status's refusals come before the tree's
 unfoldable pub lines : (status answers value : List ℕ) → List ℕ
@@ -103,4 +105,4 @@ lines status answers value = shown (then (status_reading status) (λ s. stated_l
 
 -- `report`: the lines
 unfoldable pub report_answer : (status answers value : List ℕ) → Outcome ℕ
-report_answer status answers value = ok (with_length (lines status answers value))
+report_answer status answers value = Ok (with_length (lines status answers value))

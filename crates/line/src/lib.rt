@@ -15,28 +15,21 @@ ghost use Rattle.semantics.specs.Packages as packages;
 ghost use Rattle.fields.specs.Appended.{Appended};
 ghost use Rattle.tree.specs.Walk.{text_at};
 ghost use Rattle.line.specs.Lines.{answer_byte, answer_bytes, figure, figures, truth_name, named, line, alone_lines, format_said, tree_lines, judged_lines, shown, lines, report_answer};
-ghost use Rattle.line.specs.Said.{report_said};
-ghost use Rattle.line.specs.Input.{longer, next_row, fed, fed_all, kept_in, behind, Buffers, none_held};
 ghost use Rattle.line.specs.Sizes.{longest_word, longest_truth, longest_number, longest_rows, longest_list, longest_status_line, longest_tree_line, longest_presence_line, longest_pakete_line, longest_format_line, longest_refused_line, longest_report};
 ghost use Rattle.line.specs.Parts.{Within, numbers_from, AllBelow, Admitted};
 
 use citation::Truth;
 use fields::{get16, put_byte, put_text};
-use packages::{PaketeAnswer, pakete};
-use printer::{Displayed, PRINT_LIMIT, display};
-use reader::{Status, StatusAnswer};
+pub use kept::{Input, Line};
+use packages::pakete;
+use printer::{PRINT_LIMIT, display};
+use reader::Status;
 use refusal::Refusal;
 use status::StatusKind;
-use text::head;
 use tree::{CITATION_LIMIT, TREE_LIMIT, text_at};
-use verdicts::{BothAnswer, ViolationsAnswer, eval_and_truth, violations};
+use verdicts::{eval_and_truth, violations};
 
-// What decides of the three lines: one byte more than is admitted, and one letter more than there can be citations.
-pub const STATUS_KEPT: usize = 4401;
-
-pub const ANSWERS_KEPT: usize = 257;
-
-pub const VALUE_KEPT: usize = 1025;
+mod kept;
 
 // The sizes of the scratch: all numbers of citations, all package rows, all lines.
 const LIST_SIZE: usize = 512;
@@ -45,42 +38,18 @@ const ROWS_SIZE: usize = 4864;
 
 pub const LINES_SIZE: usize = 6708;
 
-// The length of the lines, or why they were not written.
-#[derive(Clone, Copy)]
-pub enum ReportAnswer {
-    Length(usize),
-    Refused(Refusal),
-}
-
-// Which line of an input is next to be read, from 0 and at most 3, and how many bytes of the first three are kept.
-#[derive(Clone, Copy)]
-pub struct Held {
-    pub row: usize,
-    pub status: usize,
-    pub answers: usize,
-    pub value: usize,
-}
-
 // f u t n e for 0 to 4, and 5 for any other letter.
 fn answer_byte(letter: u8) -> u8
     ensures { result ≡ answer_byte letter }
 {
-    if letter == b'f' {
-        return 0;
+    match letter {
+        b'f' => 0,
+        b'u' => 1,
+        b't' => 2,
+        b'n' => 3,
+        b'e' => 4,
+        _ => 5,
     }
-    if letter == b'u' {
-        return 1;
-    }
-    if letter == b't' {
-        return 2;
-    }
-    if letter == b'n' {
-        return 3;
-    }
-    if letter == b'e' {
-        return 4;
-    }
-    5
 }
 
 // The answer bytes of letters, at the start of a scratch.
@@ -88,10 +57,8 @@ fn answer_bytes(answers: &[u8], codes: &mut [u8])
     requires { length answers.now ≤ length codes.old }
     ensures { take (length answers.now) codes.new ≡ answer_bytes answers.now }
 {
-    let mut i = 0;
-    while i < answers.len() {
-        codes[i] = answer_byte(answers[i]);
-        i += 1;
+    for (i, letter) in answers.iter().enumerate() {
+        codes[i] = answer_byte(*letter);
     }
 }
 
@@ -102,7 +69,8 @@ fn digit(d: usize) -> u8
     (48 + d) as u8
 }
 
-// A number in decimal; the answer is the place after it, here and below.
+// A number in decimal; the answer is the place after it, here and below. What is written goes by functions and not by
+// `Display`, since a contract names the bytes.
 fn put_number(n: usize, out: &mut [u8], at: usize) -> usize
     requires { (n < 1000) × (at + longest_number ≤ length out.old) }
     ensures { Within longest_number (figures n) at out.old out.new result }
@@ -135,10 +103,7 @@ fn put_word(kind: StatusKind, out: &mut [u8], at: usize) -> usize
     requires { at + longest_word ≤ length out.old }
     ensures { Within longest_word (word_of kind) at out.old out.new result }
 {
-    let held = kind.as_str();
-    let bytes = held.bytes;
-    let len = held.len;
-    put_text(&bytes[..len], out, at)
+    put_text(kind.as_str().as_bytes(), out, at)
 }
 
 // refused N
@@ -146,12 +111,14 @@ fn refused_line(why: Refusal, out: &mut [u8]) -> usize
     requires { longest_refused_line ≤ length out.old }
     ensures { Appended (line "refused " (figures (number_of why))) 0 out.old out.new result }
 {
-    let number = why.number() as usize;
+    let number = usize::from(u8::from(why));
     let from = put_text(b"refused ", out, 0);
     let end = put_number(number, out, from);
     put_byte(out, end, b'\n')
 }
 
+// The lines of a report: each says another definition of another value, so they stay functions of their own; one law serves
+// all.
 fn status_line(kind: StatusKind, out: &mut [u8], at: usize) -> usize
     requires { at + longest_status_line ≤ length out.old }
     ensures { Within longest_status_line (line "status " (word_of kind)) at out.old out.new result }
@@ -166,10 +133,7 @@ fn print_into(tree: &[u8], scratch: &mut [u8]) -> usize
     requires { (is_tree tree.now ≡ true) × (print_limit ≤ length scratch.old) }
     ensures { (result ≤ print_limit) × (take result scratch.new ≡ printed (tree_at tree.now 0)) }
 {
-    match display(tree, scratch) {
-        Displayed::Done(n) => n,
-        Displayed::Refused(_) => 0,
-    }
+    display(tree, scratch).unwrap_or(0)
 }
 
 fn tree_line(tree: &[u8], out: &mut [u8], at: usize) -> usize
@@ -197,10 +161,7 @@ fn count_pakete(tree: &[u8], scratch: &mut [u8]) -> usize
     requires { (is_tree tree.now ≡ true) × (longest_rows ≤ length scratch.old) }
     ensures { (result ≤ citation_limit) × (result ≡ length (packages.pakete (tree_at tree.now 0))) }
 {
-    match pakete(tree, scratch) {
-        PaketeAnswer::Rows(n) => n,
-        PaketeAnswer::Refused(_) => 0,
-    }
+    pakete(tree, scratch).unwrap_or(0)
 }
 
 fn pakete_line(tree: &[u8], out: &mut [u8], at: usize) -> usize
@@ -228,14 +189,9 @@ fn put_named(tree: &[u8], list: &[u8], count: usize, out: &mut [u8], at: usize) 
     requires { (is_tree tree.now ≡ true) × (2 * count ≤ length list.now) × AllBelow (cites tree.now) (numbers_from list.now count 0) × (at + length (named (texts_in tree.now) (numbers_from list.now count 0)) ≤ length out.old) }
     ensures { Appended (named (texts_in tree.now) (numbers_from list.now count 0)) at out.old out.new result }
 {
-    let mut left = count;
-    let mut from = 0;
     let mut w = at;
-    while 0 < left {
-        let number = get16(list, from);
-        w = put_cited(tree, number, out, w);
-        from += 2;
-        left -= 1;
+    for k in 0..count {
+        w = put_cited(tree, get16(list, 2 * k), out, w);
     }
     w
 }
@@ -245,10 +201,7 @@ fn list_violations(tree: &[u8], value: &[u8], scratch: &mut [u8]) -> usize
     requires { (is_tree tree.now ≡ true) × Admitted value.now × (longest_list ≤ length scratch.old) }
     ensures { (result ≤ citation_limit) × (numbers_from scratch.new result 0 ≡ violated.violations value.now (tree_at tree.now 0)) }
 {
-    match violations(tree, value, scratch) {
-        ViolationsAnswer::Count(n) => n,
-        ViolationsAnswer::Refused(_) => 0,
-    }
+    violations(tree, value, scratch).unwrap_or(0)
 }
 
 fn format_line(truth: Truth, tree: &[u8], value: &[u8], out: &mut [u8], at: usize) -> usize
@@ -297,10 +250,8 @@ fn judged_lines(kind: StatusKind, tree: &[u8], codes: &[u8], value: &[u8], out: 
     ensures { Appended (shown (judged_lines kind tree.now (tree_at tree.now 0) codes.now value.now)) 0 out.old out.new result }
 {
     match eval_and_truth(tree, codes, value) {
-        BothAnswer::Refused(why) => refused_line(why, out),
-        BothAnswer::Value { presence, format } => {
-            tree_lines(kind, tree, value, presence, format, out)
-        }
+        Err(why) => refused_line(why, out),
+        Ok((presence, format)) => { tree_lines(kind, tree, value, presence, format, out) }
     }
 }
 
@@ -350,146 +301,23 @@ fn write_lines(
     ensures { Appended (lines status.now answers.now value.now) 0 out.old out.new result }
 {
     match Status::parse(status, tree) {
-        StatusAnswer::Refused(why) => refused_line(why, out),
-        StatusAnswer::Alone(kind) => alone_lines(kind, out),
-        StatusAnswer::Tree { kind, length } => {
-            answered_lines(kind, &tree[..length], answers, value, out)
-        }
+        Err(why) => refused_line(why, out),
+        Ok((kind, None)) => alone_lines(kind, out),
+        Ok((kind, Some(length))) => { answered_lines(kind, &tree[..length], answers, value, out) }
     }
 }
 
 // The lines that ahbline writes for its three lines, each without its line feed.
-pub fn report(status: &[u8], answers: &[u8], value: &[u8], out: &mut [u8]) -> ReportAnswer
-    ensures result_value { report_said result ≡ answer_of (report_answer status.now answers.now value.now) (length out.old) }
+pub fn report(status: &[u8], answers: &[u8], value: &[u8], out: &mut [u8]) -> Result<usize, Refusal>
+    ensures result_value { result ≡ answer_of (report_answer status.now answers.now value.now) (length out.old) }
     ensures out_after { out.new ≡ written_of (report_answer status.now answers.now value.now) out.old }
 {
     let mut tree = [0u8; TREE_LIMIT];
     let mut text = [0u8; LINES_SIZE];
     let n = write_lines(status, answers, value, &mut tree, &mut text);
     if out.len() < n {
-        return ReportAnswer::Refused(Refusal::NoRoom);
+        return Err(Refusal::NoRoom);
     }
     put_text(&text[..n], out, 0);
-    ReportAnswer::Length(n)
-}
-
-// One byte more of a line, unless it is full; the answer is how many are kept.
-fn keep(b: u8, line: &mut [u8], len: usize) -> usize
-    requires { len ≤ length line.old }
-    ensures { Appended (longer (length line.old) b (take len line.old)) 0 line.old line.new result }
-{
-    if len < line.len() {
-        line[len] = b;
-        return len + 1;
-    }
-    len
-}
-
-fn next_row(row: usize) -> usize
-    ensures { result ≡ next_row row }
-{
-    if row < 3 {
-        return row + 1;
-    }
-    row
-}
-
-impl Held {
-    pub fn new() -> Self
-        ensures { result ≡ none_held }
-    {
-        Held {
-            row: 0,
-            status: 0,
-            answers: 0,
-            value: 0,
-        }
-    }
-}
-
-// One byte more of an input; behind what is kept the buffers stay as they were.
-pub fn feed(b: u8, held: Held, status: &mut [u8], answers: &mut [u8], value: &mut [u8]) -> Held
-    requires { Buffers held status.old answers.old value.old }
-    ensures buffers { Buffers result status.new answers.new value.new }
-    ensures value_after { kept_in result status.new answers.new value.new ≡ fed b (kept_in held status.old answers.old value.old) }
-    ensures value_unchanged { behind result status.new answers.new value.new ≡ behind result status.old answers.old value.old }
-{
-    let row = held.row;
-    if b == b'\n' {
-        return Held {
-            row: next_row(row),
-            status: held.status,
-            answers: held.answers,
-            value: held.value,
-        };
-    }
-    if row == 0 {
-        let n = keep(b, status, held.status);
-        return Held {
-            row,
-            status: n,
-            answers: held.answers,
-            value: held.value,
-        };
-    }
-    if row == 1 {
-        let n = keep(b, answers, held.answers);
-        return Held {
-            row,
-            status: held.status,
-            answers: n,
-            value: held.value,
-        };
-    }
-    if row == 2 {
-        let n = keep(b, value, held.value);
-        return Held {
-            row,
-            status: held.status,
-            answers: held.answers,
-            value: n,
-        };
-    }
-    held
-}
-
-// So many bytes more.
-pub fn feed_all(
-    input: &[u8],
-    held: Held,
-    status: &mut [u8],
-    answers: &mut [u8],
-    value: &mut [u8],
-) -> Held
-    requires { Buffers held status.old answers.old value.old }
-    ensures buffers { Buffers result status.new answers.new value.new }
-    ensures value_after { kept_in result status.new answers.new value.new ≡ fed_all input.now (kept_in held status.old answers.old value.old) }
-    ensures value_unchanged { behind result status.new answers.new value.new ≡ behind result status.old answers.old value.old }
-{
-    let mut state = held;
-    let mut i = 0;
-    while i < input.len() {
-        state = feed(input[i], state, status, answers, value);
-        i += 1;
-    }
-    state
-}
-
-// The lines for the three lines that are kept; the answer is their length.
-pub fn report_held(held: Held, status: &[u8], answers: &[u8], value: &[u8], out: &mut [u8]) -> usize
-    requires { Buffers held status.now answers.now value.now × (longest_report ≤ length out.old) }
-    ensures upper_bound { result ≤ length out.new }
-    ensures appended { Appended (lines (take held.status status.now) (take held.answers answers.now) (take held.value value.now)) 0 out.old out.new result }
-{
-    let first = held.status;
-    let second = held.answers;
-    let third = held.value;
-    let mut tree = [0u8; TREE_LIMIT];
-    write_lines(
-        head(status, first),
-        head(answers, second),
-        head(value, third),
-        &mut tree,
-        out,
-    )
+    Ok(n)
 }

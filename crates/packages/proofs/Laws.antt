@@ -1,70 +1,48 @@
--- Package rows one after another: a number byte by byte, the loops over the citations, and what `pakete` answers. Assumes nothing.
+-- Package rows one after another: a number's bytes, the loops over the citations, and what `pakete` answers. Assumes nothing.
+use Rattle.std.specs.Prelude.{Ok, Err, is_some, unwrap_or}
+use Rattle.std.specs.Int.{w64, to_le_bytes, bytes_low_first, byte_at}
+use mir.Val.{bool_byte}
 use mathlib.Core.Path.{◌≡◌, refl, sym, ap, ◌∙◌}
 use mathlib.Core.List.{List, [], ◌∷◌, ◌++◌, append_assoc, append-nil}
-use mathlib.Core.Bool.{Bool, true, false, cond}
-use Prim.Native.Nat.{ℕ, zero, suc, ◌+◌, ◌-◌, ◌*◌, ◌/◌, ◌%◌, ◌≤◌, ◌<◌}
+use mathlib.Core.Bool.{Bool, true, false}
+use Prim.Native.Nat.{ℕ, zero, suc, ◌+◌, ◌*◌, ◌/◌, ◌%◌, ◌^◌, ◌≤◌, ◌<◌}
 use native.Mathlib.Numerals.{add-one}
+use native.Mathlib.Nat.{pow-zero, pow-suc, div-one, div-div-eq-div-mul}
 use native.Mathlib.Omega.{arith}
 use lib.ListN.{length, get_or, drop, length-append, drop_of_length-le}
 use lib.Seq.{drop-cons}
-use Rattle.refusal.specs.Result.{Result, ok, refuse, map_ok, then}
+use Rattle.refusal.specs.Result.{map_ok, then}
 use Rattle.refusal.specs.declared.Refusal.TheVariants.{NotATree, NoRoom}
-use Rattle.citation.specs.declared.ConditionKind.{ConditionKind}
-use Rattle.citation.specs.Kinds.{kind_of}
 use Rattle.citation.specs.declared.Paket.{Paket}
-use Rattle.citation.specs.Pakete.{paket_of}
 use Rattle.grammar.specs.Expr.{concat}
 use Rattle.grammar.proofs.Bounds.{concat_append}
 use Rattle.grammar.specs.Bytes.{two_bytes, cites, texts_in, is_tree}
 use Rattle.grammar.specs.Outcome.{answer_of, written_of}
 use Rattle.grammar.proofs.Outcome.{answer_fits, written_fits, answer_short, written_short}
-use Rattle.semantics.specs.Packages.{is_paket, paket_size, bytes_up_to, mark_of, paket_bytes, read_row, row_of, rows_of, pakete}
+use Rattle.semantics.specs.Packages.{paket_size, bytes_up_to, mark_of, paket_bytes, row_of, rows_of, pakete}
 use Rattle.semantics.proofs.Sizes.{row-length, rows_length}
 use Rattle.semantics.specs.Answers.{rowed, pakete_answer}
 use Rattle.fields.specs.Appended.{Appended}
-use Rattle.fields.proofs.Appends.{nothing, both, same, whole}
+use Rattle.fields.proofs.Appends.{both, same, whole}
 use Rattle.tree.specs.Walk.{text_at}
 use Rattle.tree.proofs.Spots.{texts-count}
 use Rattle.tree.proofs.Walks.{root, no-tree}
 
--- a number's bytes while they are written: those that are, and those of the rest
-pub record Bytes (width v at : ℕ) (base out : List ℕ) (left rest w : ℕ) : Type 0 where
-  pub done : List ℕ
-  pub all : bytes_up_to width v ≡ done ++ bytes_up_to left rest
-  pub written : Appended done at base out w
-  pub kept : length out ≡ length base
-  pub place : w + left ≡ at + width
+byte_is : (i n : ℕ) → byte_at i n ≡ n / 256 ^ i % 256
+byte_is zero n = ap (λ (x : ℕ). x % 256) (sym (div-one n) ∙ ap (λ (x : ℕ). n / x) (sym (pow-zero 256)))
+byte_is (suc i) n = refl
 
--- before the first
-pub bytes_begin : (width v at : ℕ) (base : List ℕ) → Bytes width v at base base width v at
-bytes_begin width v at base = record { done = []; all = refl; written = nothing at base; kept = refl; place = refl }
-
-first_byte : (left rest : ℕ) → 0 < left → bytes_up_to left rest ≡ (rest % 256) ∷ bytes_up_to (left - 1) (rest / 256)
+-- a number's bytes as std says them, from byte i on
+bytes_from : (i width n : ℕ) → bytes_low_first i width n ≡ bytes_up_to width (n / 256 ^ i)
 unfolding bytes_up_to
-first_byte zero rest h = absurd (omega arith)
-first_byte (suc left) rest h = let z : left ≡ suc left - 1 = omega arith in ap (λ (x : ℕ). (rest % 256) ∷ bytes_up_to x (rest / 256)) z
+bytes_from i zero n = refl
+bytes_from i (suc width) n =
+    let more : n / 256 ^ suc i ≡ n / 256 ^ i / 256 = ap (λ (x : ℕ). n / x) (pow-suc 256 i) ∙ sym (div-div-eq-div-mul n (256 ^ i) 256) in
+    rw (byte_is i n) (ap (λ x. (n / 256 ^ i % 256) ∷ x) (bytes_from (suc i) width n ∙ ap (bytes_up_to width) more))
 
--- one byte more
-pub bytes_next : {width v at : ℕ} {base out new : List ℕ} {left rest w q : ℕ} → Bytes width v at base out left rest w → 0 < left
-    → Appended ((rest % 256) ∷ []) w out new q → length new ≡ length out → Bytes width v at base new (left - 1) (rest / 256) q
-bytes_next {width} {v} {at} {base} {out} {new} {left} {rest} {w} {q} s h a k =
-    record {
-      done = s.done ++ ((rest % 256) ∷ []);
-      all = s.all ∙ ap (λ x. s.done ++ x) (first_byte left rest h) ∙ sym (append_assoc s.done ((rest % 256) ∷ []) (bytes_up_to (left - 1) (rest / 256)));
-      written = both s.written a;
-      kept = k ∙ s.kept;
-      place = omega (arith, s.place, a.ends);
-    }
-
-no_bytes : (left rest : ℕ) → left ≤ 0 → bytes_up_to left rest ≡ []
-unfolding bytes_up_to
-no_bytes zero rest h = refl
-no_bytes (suc left) rest h = absurd (omega arith)
-
--- after the last
-pub bytes_end : {width v at : ℕ} {base out : List ℕ} {left rest w : ℕ} → Bytes width v at base out left rest w → left ≤ 0 → Appended (bytes_up_to width v) at base out w
-bytes_end {width} {v} {at} {base} {out} {left} {rest} {w} s h =
-    same (sym (s.all ∙ ap (λ x. s.done ++ x) (no_bytes left rest h) ∙ append-nil s.done)) s.written
+-- the eight bytes of a number as std says them
+pub bytes-said : (v : ℕ) → to_le_bytes w64 v ≡ bytes_up_to 8 v
+bytes-said v = bytes_from 0 8 v ∙ ap (bytes_up_to 8) (ap (λ (x : ℕ). v / x) (pow-zero 256) ∙ div-one v)
 
 rows_cons : (n : ℕ) (t : List ℕ) (ts : List (List ℕ)) → rows_of n (t ∷ ts) ≡ row_of n t ++ rows_of (n + 1) ts
 unfolding rows_of
@@ -79,13 +57,17 @@ bytes-length (suc width) v = ap suc (bytes-length width (v / 256))
 pub after_eight : (v : ℕ) {at q : ℕ} {l m : List ℕ} → Appended (bytes_up_to 8 v) at l m q → q ≡ at + 8
 after_eight v a = omega (arith, a.ends, bytes-length 8 v)
 
-row-parts : (n : ℕ) (p : Paket) (m h : ℕ) → m ≡ mark_of p.bounded → h ≡ cond p.bounded p.high 0
+mark_is : (b : Bool) → bool_byte b ≡ mark_of b
+mark_is true = refl
+mark_is false = refl
+
+row-parts : (n : ℕ) (p : Paket) (m h : ℕ) → m ≡ bool_byte (is_some p.high) → h ≡ unwrap_or p.high 0
     → two_bytes n ++ (bytes_up_to 8 p.low ++ ((m ∷ []) ++ bytes_up_to 8 h)) ≡ paket_bytes n p
 unfolding paket_bytes
-row-parts n p m h e f = rw (e, f)
+row-parts n p m h e f = rw (e ∙ mark_is (is_some p.high), f)
 
 -- the fields of a row, one after another
-pub row_written : (n : ℕ) (p : Paket) (m h : ℕ) {at w x y z : ℕ} {k l o q r : List ℕ} → m ≡ mark_of p.bounded → h ≡ cond p.bounded p.high 0
+pub row_written : (n : ℕ) (p : Paket) (m h : ℕ) {at w x y z : ℕ} {k l o q r : List ℕ} → m ≡ bool_byte (is_some p.high) → h ≡ unwrap_or p.high 0
     → Appended (two_bytes n) at k l w → Appended (bytes_up_to 8 p.low) w l o x → Appended (m ∷ []) x o q y → Appended (bytes_up_to 8 h) y q r z → Appended (paket_bytes n p) at k r z
 row_written n p m h e f a b c d = same (row-parts n p m h e f) (both a (both b (both c d)))
 
@@ -122,10 +104,6 @@ rows_none b n h = let l : length (texts_in b) ≤ n = omega (arith, texts-count 
 abbrev pub Counted : List ℕ → ℕ → ℕ → Type 0
 Counted b n rows = rows + length (rows_of n (drop n (texts_in b))) ≡ length (rows_of 0 (texts_in b))
 
--- before the first citation
-pub count_begin : (b : List ℕ) → Counted b 0 0
-count_begin b = omega arith
-
 -- one citation more
 pub count_next : (b : List ℕ) (n rows r : ℕ) → n < cites b → Counted b n rows → r ≡ length (row_of n (text_at b n)) → Counted b (n + 1) (rows + r)
 count_next b n rows r h s e =
@@ -141,10 +119,6 @@ pub record Going (b : List ℕ) (base out : List ℕ) (n w : ℕ) : Type 0 where
   pub all : concat (rows_of 0 (texts_in b)) ≡ done ++ concat (rows_of n (drop n (texts_in b)))
   pub written : Appended done 0 base out w
   pub kept : length out ≡ length base
-
--- before the first citation
-pub going_begin : (b base : List ℕ) → Going b base base 0 0
-going_begin b base = record { done = []; all = refl; written = nothing 0 base; kept = refl }
 
 rest_split : (b : List ℕ) (n : ℕ) → n < cites b → concat (rows_of n (drop n (texts_in b))) ≡ concat (row_of n (text_at b n)) ++ concat (rows_of (n + 1) (drop (n + 1) (texts_in b)))
 rest_split b n h = ap concat (rows_split b n h) ∙ concat_append (row_of n (text_at b n)) (rows_of (n + 1) (drop (n + 1) (texts_in b)))
@@ -179,18 +153,18 @@ pub room_is : (b : List ℕ) (rows : ℕ) → rows ≡ length (rows_of 0 (texts_
 room_is b rows e = (rows_length 0 (texts_in b)).0 ∙ ap (λ (x : ℕ). paket_size * x) (sym e)
 
 -- on a tree
-answer_is : (b : List ℕ) → is_tree b ≡ true → pakete_answer b ≡ ok (rowed (rows_of 0 (texts_in b)))
+answer_is : (b : List ℕ) → is_tree b ≡ true → pakete_answer b ≡ Ok (rowed (rows_of 0 (texts_in b)))
 unfolding pakete_answer map_ok pakete
 answer_is b h = let r = root b h in rw (r.is, r.cited)
 
 -- 15
-pub pakete_refused : (b old : List ℕ) → is_tree b ≡ false → record { result_value : refuse NotATree ≡ answer_of (pakete_answer b) (length old); out_after : old ≡ written_of (pakete_answer b) old }
+pub pakete_refused : (b old : List ℕ) → is_tree b ≡ false → record { result_value : Err NotATree ≡ answer_of (pakete_answer b) (length old); out_after : old ≡ written_of (pakete_answer b) old }
 unfolding pakete_answer map_ok answer_of written_of then
 pakete_refused b old h = record { result_value = rw (no-tree b h); out_after = rw (no-tree b h) }
 
 -- 14
 pub pakete_short : (b old : List ℕ) (rows : ℕ) → is_tree b ≡ true → rows ≡ length (rows_of 0 (texts_in b)) → length old < paket_size * rows
-    → record { result_value : refuse NoRoom ≡ answer_of (pakete_answer b) (length old); out_after : old ≡ written_of (pakete_answer b) old }
+    → record { result_value : Err NoRoom ≡ answer_of (pakete_answer b) (length old); out_after : old ≡ written_of (pakete_answer b) old }
 pakete_short b old rows h e l =
     let w = rowed (rows_of 0 (texts_in b)) in
     let short : length old < length (concat (rows_of 0 (texts_in b))) = omega (arith, l, room_is b rows e) in
@@ -201,24 +175,11 @@ pakete_short b old rows h e l =
 
 -- the rows
 pub pakete_done : (b old new : List ℕ) (rows q : ℕ) → is_tree b ≡ true → rows ≡ length (rows_of 0 (texts_in b)) → paket_size * rows ≤ length old
-    → Appended (concat (rows_of 0 (texts_in b))) 0 old new q → record { result_value : ok rows ≡ answer_of (pakete_answer b) (length old); out_after : new ≡ written_of (pakete_answer b) old }
+    → Appended (concat (rows_of 0 (texts_in b))) 0 old new q → record { result_value : Ok rows ≡ answer_of (pakete_answer b) (length old); out_after : new ≡ written_of (pakete_answer b) old }
 pakete_done b old new rows q h e l a =
     let w = rowed (rows_of 0 (texts_in b)) in
     let room : length (concat (rows_of 0 (texts_in b))) ≤ length old = omega (arith, l, room_is b rows e) in
     record {
-      result_value = ap ok e ∙ sym (ap (λ x. answer_of x (length old)) (answer_is b h) ∙ answer_fits w (length old) room);
+      result_value = ap Ok e ∙ sym (ap (λ x. answer_of x (length old)) (answer_is b h) ∙ answer_fits w (length old) room);
       out_after = whole a ∙ sym (ap (λ x. written_of x old) (answer_is b h) ∙ written_fits w old room);
     }
-
--- no Paket: no row
-pub row_none : (n : ℕ) (t s : List ℕ) (k : ConditionKind) (x : Bool) → x ≡ false → x ≡ is_paket k → k ≡ kind_of s → s ≡ t → [] ≡ row_of n t
-row_none n t s k x f e g h =
-    let no : is_paket (kind_of t) ≡ false = sym (ap is_paket (g ∙ ap kind_of h)) ∙ sym e ∙ f in
-    rw no
-
--- a Paket: its row, if it is readable
-pub row_some : (n : ℕ) (t s : List ℕ) (k : ConditionKind) (x : Bool) (q : Result Paket) → x ≡ true → x ≡ is_paket k → k ≡ kind_of s → s ≡ t → q ≡ paket_of s → read_row n q ≡ row_of n t
-row_some n t s k x q f e g h r =
-    let yes : is_paket (kind_of t) ≡ true = sym (ap is_paket (g ∙ ap kind_of h)) ∙ sym e ∙ f in
-    let p : q ≡ paket_of t = r ∙ ap paket_of h in
-    rw (yes, p)

@@ -1,10 +1,12 @@
 -- Parsing does not look at the texts of citations. Assumes nothing.
+use Rattle.std.specs.Prelude.{Result, Ok, Err}
 use mathlib.Core.Path.{◌≡◌, refl, sym, ap, ◌∙◌}
 use mathlib.Core.Bool.{Bool, true, false, cond}
 use mathlib.Core.List.{List, [], ◌∷◌, map}
 use Prim.Native.Nat.{ℕ, suc, ◌+◌}
 use lib.ListN.{length, length-append}
-use Rattle.refusal.specs.Result.{Result, ok, refused, map_ok}
+use Rattle.refusal.specs.declared.Refusal.{Refusal}
+use Rattle.refusal.specs.Result.{map_ok}
 use Rattle.grammar.specs.Expr.{Op, And, Or, Xor, Expr, Exprs, cite, Then, join, none, more, ◌◂◌, ◌⧺◌, ◌▸◌, citations, citations_of, count}
 use Rattle.grammar.specs.Lex.{Tok, cited, op, opening, closing, texts}
 use Rattle.grammar.specs.Parse.{same, gather, Side, lead, chain, whole, led, grow, Left, start, after, Opens, top, within, value, read, parse}
@@ -97,7 +99,7 @@ read_bare : (ts : List Tok) (l : Left) (run : Exprs) (w : Opens)
     → read (map bare_tok ts) (bare_left l) (bares run) (bare_opens w) ≡ map_ok bare (read ts l run w)
 unfolding read bare bare_left bare_opens map_ok
 read_bare [] l none w = refl
-read_bare [] l (more e es) top = ap ok (sym (bare_whole-value l (e ◂ es)))
+read_bare [] l (more e es) top = ap Ok (sym (bare_whole-value l (e ◂ es)))
 read_bare [] l (more e es) (within l' run' w) = refl
 read_bare (cited t ∷ ts) l run w =
     ap (λ x. read (map bare_tok ts) (bare_left l) x (bare_opens w)) (sym (bares_more run (cite t))) ∙ read_bare ts l (run ▸ cite t) w
@@ -182,15 +184,15 @@ parsed_bare : (ts : List Tok) → parsed_kinds (kinds_of ts) ≡ map_ok bare (pa
 unfolding parsed_kinds
 parsed_bare ts = ap parse (toks_kinds ts) ∙ parse_bare ts
 
-spans_same : (r : Result Expr) → map_ok span (map_ok bare r) ≡ map_ok span r
+spans_same : (r : Result Expr Refusal) → map_ok span (map_ok bare r) ≡ map_ok span r
 unfolding map_ok
-spans_same (ok e) = ap ok (span_bare e)
-spans_same (refused k) = refl
+spans_same (Ok e) = ap Ok (span_bare e)
+spans_same (Err k) = refl
 
-rows_same : (r : Result Expr) → rows_in (map_ok bare r) ≡ rows_in r
+rows_same : (r : Result Expr Refusal) → rows_in (map_ok bare r) ≡ rows_in r
 unfolding map_ok
-rows_same (ok e) = ap packed (rows_bare 0 e)
-rows_same (refused k) = refl
+rows_same (Ok e) = ap packed (rows_bare 0 e)
+rows_same (Err k) = refl
 
 -- how many rows there are depends on the kinds alone
 pub said_by_kinds : (ts : List Tok) → map_ok span (parsed_kinds (kinds_of ts)) ≡ map_ok span (parse ts)

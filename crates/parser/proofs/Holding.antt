@@ -10,18 +10,19 @@ use Rattle.grammar.specs.Expr.{Expr, Exprs, cite, none, ◌◂◌, ◌▸◌, ci
 use Rattle.grammar.specs.Rows.{span, spans, children}
 use Rattle.parser.specs.Packed.{pack, node_row, postorder, postorders}
 use Rattle.parser.specs.States.{Held, Front}
+use Rattle.parser.specs.declared.Row.{Row}
 use Rattle.parser.proofs.Orders.{postorder_spans, spans_append, cites_append, postorders_append, postorder_one, span_one, count_one, cite_span, cite_count, Root, root}
 
 -- less of what was there
-pub front_less : (m n : ℕ) (old new : List ℕ) → m ≤ n → Front n old new → Front m old new
+pub front_less : (m n : ℕ) (old new : List Row) → m ≤ n → Front n old new → Front m old new
 front_less m n old new h f = sym (take-take m n new h) ∙ ap (take m) f ∙ take-take m n old h
 
-pub front_set : (n : ℕ) (old : List ℕ) (i v : ℕ) → n ≤ i → Front n old (set old i v)
+pub front_set : (n : ℕ) (old : List Row) (i : ℕ) (v : Row) → n ≤ i → Front n old (set old i v)
 front_set n old i v h = take-set-le n old i v h
 
-module _ (start first : ℕ) (work : List ℕ) where
+module _ (start first : ℕ) (work : List Row) where
   -- a citation's row
-  pub held_cite : (t : List ℕ) (v : ℕ) → start < length work → v ≡ pack 0 first 1 → Held start first (set work start v) (start + 1) (first + 1) (cite t ◂ none)
+  pub held_cite : (t : List ℕ) (v : Row) → start < length work → v ≡ pack 0 first 1 → Held start first (set work start v) (start + 1) (first + 1) (cite t ◂ none)
   unfolding postorder
   held_cite t v h e = record {
     fits = rw (length-set work start v) (omega arith);
@@ -34,7 +35,7 @@ module _ (start first : ℕ) (work : List ℕ) where
 
   module _ (rows cites : ℕ) (es : Exprs) (h : Held start first work rows cites es) where
     -- one operand more
-    pub held_more : (new : List ℕ) (rows' cites' : ℕ) (e : Expr) → Held rows cites new rows' cites' (e ◂ none) → Front rows work new
+    pub held_more : (new : List Row) (rows' cites' : ℕ) (e : Expr) → Held rows cites new rows' cites' (e ◂ none) → Front rows work new
         → Held start first new rows' cites' (es ▸ e)
     held_more new rows' cites' e k f = record {
       fits = k.fits;
@@ -47,7 +48,7 @@ module _ (start first : ℕ) (work : List ℕ) where
     }
 
     -- the row of the node of these operands
-    pub held_node : (k v : ℕ) (e : Expr) → rows < length work → v ≡ node_row k es → postorder first e ≡ postorders first es ++ (node_row k es ∷ [])
+    pub held_node : (k : ℕ) (v : Row) (e : Expr) → rows < length work → v ≡ node_row k es → postorder first e ≡ postorders first es ++ (node_row k es ∷ [])
         → span e ≡ suc (spans es) → count e ≡ length (citations_of es)
         → Held start first (set work rows v) (rows + 1) cites (e ◂ none)
     held_node k v e l q p z c = record {
@@ -89,11 +90,11 @@ module _ (start first : ℕ) (work : List ℕ) where
           ∙ take_at (take start work ++ postorders first (children e)) (r.value ∷ []) (rows - 1) before;
     }
 
-    pub held_root : get_or work (rows - 1) 0 ≡ r.value
+    pub held_root : get_or work (rows - 1) (pack 0 0 0) ≡ r.value
     held_root =
-        sym (get_or-take rows work (rows - 1) 0 (omega (arith, high)))
-        ∙ ap (λ x. get_or x (rows - 1) 0) joined
-        ∙ get_or_at (take start work ++ postorders first (children e)) r.value [] 0 (rows - 1) before
+        sym (get_or-take rows work (rows - 1) (pack 0 0 0) (omega (arith, high)))
+        ∙ ap (λ x. get_or x (rows - 1) (pack 0 0 0)) joined
+        ∙ get_or_at (take start work ++ postorders first (children e)) r.value [] (pack 0 0 0) (rows - 1) before
 
   -- the trees before the last, and the last
   module _ (rows cites : ℕ) (es : Exprs) (e : Expr) (h : Held start first work rows cites (es ▸ e)) where

@@ -1,24 +1,15 @@
 -- Rows in postorder and in the order of the tree. Assumes nothing.
 use mathlib.Core.Path.{◌≡◌, refl, sym, ap, ◌∙◌}
 use mathlib.Core.List.{List, [], ◌∷◌, ◌++◌, append_assoc, append-nil}
-use Prim.Native.Nat.{ℕ, suc, ◌+◌, ◌/◌, ◌%◌, ◌≤◌, ◌<◌}
+use Prim.Native.Nat.{ℕ, suc, ◌+◌, ◌≤◌}
 use native.Mathlib.Nat.{add-zero}
 use native.Mathlib.Omega.{arith}
 use lib.ListN.{length, length-append}
 use Rattle.grammar.specs.Expr.{Op, And, Or, Xor, Expr, Exprs, cite, Then, join, none, more, ◌◂◌, ◌⧺◌, ◌▸◌, citations, citations_of, count, citations_append}
-use Rattle.grammar.specs.Rows.{Row, row, cite_kind, then_kind, op_kind, many, node, rows, rows_of, span, spans, children, rows_spans}
+use Rattle.grammar.specs.Rows as grammar
+use Rattle.grammar.specs.Rows.{row, cite_kind, then_kind, op_kind, many, node, rows, rows_of, span, spans, children, rows_spans}
 use Rattle.parser.specs.Packed.{pack, packed, kind_of_root, node_row, postorder, postorders}
-
--- a row's parts
-
-pub kind_of_pack : (k m z : ℕ) → m < 65536 → z < 65536 → pack k m z / 4294967296 ≡ k
-kind_of_pack k m z h l = omega arith
-
-pub number_of_pack : (k m z : ℕ) → m < 65536 → z < 65536 → pack k m z / 65536 % 65536 ≡ m
-number_of_pack k m z h l = omega arith
-
-pub size_of_pack : (k m z : ℕ) → z < 65536 → pack k m z % 65536 ≡ z
-size_of_pack k m z h = omega arith
+use Rattle.parser.specs.declared.Row.{Row}
 
 mutual
   unfolding postorder span
@@ -59,13 +50,13 @@ postorders_append n (more e a) b =
     ∙ ap (λ x. postorder n e ++ (postorders (n + count e) a ++ postorders x b)) (further n e a)
     ∙ sym (append_assoc (postorder n e) (postorders (n + count e) a) _)
 
--- as many numbers as rows
-pub packed-length : (rs : List Row) → length (packed rs) ≡ length rs
+-- as many of the one as of the other
+pub packed-length : (rs : List grammar.Row) → length (packed rs) ≡ length rs
 unfolding packed
 packed-length [] = refl
 packed-length (row k m z ∷ rs) = ap suc (packed-length rs)
 
-pub packed_append : (a b : List Row) → packed (a ++ b) ≡ packed a ++ packed b
+pub packed_append : (a b : List grammar.Row) → packed (a ++ b) ≡ packed a ++ packed b
 unfolding packed
 packed_append [] b = refl
 packed_append (row k m z ∷ a) b = rw (packed_append a b)
@@ -122,7 +113,7 @@ last_of (more e es) h = last_after e es
 -- a tree's own row
 pub record Root (n : ℕ) (e : Expr) : Type 0 where
   pub number : ℕ
-  pub value : ℕ
+  pub value : Row
   pub after : postorder n e ≡ postorders n (children e) ++ (value ∷ [])
   pub ahead : packed (rows n e) ≡ value ∷ packed (rows_of n (children e))
   pub sized : span e ≡ suc (spans (children e))

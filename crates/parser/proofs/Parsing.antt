@@ -1,10 +1,11 @@
 -- All tokens: what was read and placed is what parsing says. Assumes nothing.
+use Rattle.std.specs.Prelude.{Result, Ok, Err}
 use mathlib.Core.Path.{◌≡◌, refl, sym, ap, ◌∙◌}
 use mathlib.Core.List.{List, ◌++◌}
 use Prim.Native.Nat.{ℕ, ◌+◌, ◌-◌, ◌*◌, ◌≤◌, ◌<◌}
 use native.Mathlib.Omega.{arith}
 use lib.ListN.{length, take, drop}
-use Rattle.refusal.specs.Result.{ok, refuse, map_ok}
+use Rattle.refusal.specs.Result.{map_ok}
 use Rattle.refusal.specs.declared.Refusal.{Refusal}
 use Rattle.refusal.specs.declared.Refusal.TheVariants.{Parentheses}
 use Rattle.utf8.specs.Limits.{text_limit}
@@ -13,14 +14,11 @@ use Rattle.grammar.specs.Parse.{parse}
 use Rattle.grammar.specs.Rows.{rows, rows_of, span, spans, rows_span}
 use Rattle.grammar.specs.Reading.{citation_limit}
 use Rattle.parser.specs.Packed.{packed}
-use Rattle.parser.specs.Answer.{cites_in, parsed_said, parsed_kinds, rows_over}
+use Rattle.parser.specs.Answer.{cites_in, parsed_kinds, rows_over}
 use Rattle.parser.specs.Tokens.{from}
 use Rattle.parser.specs.States.{Held, Ready, ChainSays, Stand, Placed}
 use Rattle.parser.specs.declared.Pos.{Pos}
-use Rattle.parser.specs.declared.Step.{Step}
-use Rattle.parser.specs.declared.Step.TheVariants.{On, Off}
-use Rattle.parser.specs.declared.Parsed.{Parsed}
-use Rattle.parser.specs.declared.Parsed.TheVariants.{Rows, Refused}
+use Rattle.parser.specs.declared.Row.{Row}
 use Rattle.parser.proofs.Steps.{parse_done, parse_left_over, parse_fails}
 use Rattle.parser.proofs.Ahead.{from_end, close_here}
 use Rattle.parser.proofs.Orders.{many_one, rows_one, span_one, packed-length}
@@ -33,33 +31,30 @@ pub ready_first : (s : List ℕ) (room : ℕ) → length s ≤ text_limit → ci
 ready_first s room a b c = record { short = a; inside = omega arith; few = omega arith; space = omega arith }
 
 -- what `parse_tokens` says of kinds: its answer, and the rows before and after
-abbrev Says : (s : List ℕ) → Parsed → (l new : List ℕ) → Type 0
-Says s r l new = (parsed_said r ≡ map_ok span (parsed_kinds s)) × (new ≡ rows_over (parsed_kinds s) l)
+abbrev Says : (s : List ℕ) → Result ℕ Refusal → (l new : List Row) → Type 0
+Says s r l new = (r ≡ map_ok span (parsed_kinds s)) × (new ≡ rows_over (parsed_kinds s) l)
 
 module _ (s : List ℕ) where
   parsed_is : parsed_kinds s ≡ parse (from s 0)
   unfolding parsed_kinds from
   parsed_is = refl
 
-  refuses : (l : List ℕ) (why : Refusal) → parse (from s 0) ≡ refuse why → Says s (Refused why) l l
+  refuses : (l : List Row) (why : Refusal) → parse (from s 0) ≡ Err why → Says s (Err why) l l
   unfolding map_ok
   refuses l why h = rw (parsed_is, h) (refl, refl)
 
-  says : (l new : List ℕ) (n : ℕ) (e : Expr) → parse (from s 0) ≡ ok e → n ≡ span e → new ≡ packed (rows 0 e) ++ drop n l → Says s (Rows n) l new
+  says : (l new : List Row) (n : ℕ) (e : Expr) → parse (from s 0) ≡ Ok e → n ≡ span e → new ≡ packed (rows 0 e) ++ drop n l → Says s (Ok n) l new
   unfolding map_ok
   says l new n e h z w =
       let size : n ≡ length (packed (rows 0 e)) = z ∙ sym (packed-length (rows 0 e) ∙ rows_span 0 e) in
-      rw (parsed_is, h) (ap ok z, w ∙ ap (λ (x : ℕ). packed (rows 0 e) ++ drop x l) size)
+      rw (parsed_is, h) (ap Ok z, w ∙ ap (λ (x : ℕ). packed (rows 0 e) ++ drop x l) size)
 
-  module _ (old work : List ℕ) (r : Step) where
-    pub refused_chain : (l : List ℕ) (why : Refusal) → r ≡ Off why → ChainSays s origin old work r → Says s (Refused why) l l
-    refused_chain l why e h = let g : ChainSays s origin old work (Off why) = rw e at h in refuses l why (parse_fails g)
+  module _ (old work : List Row) where
+    pub refused_chain : (l : List Row) (why : Refusal) → ChainSays s origin old work (Err why) → Says s (Err why) l l
+    refused_chain l why g = refuses l why (parse_fails g)
 
-    module _ (q : Pos) (e : r ≡ On q) (h : ChainSays s origin old work r) where
-      abbrev got : ChainSays s origin old work (On q)
-      got = rw e at h
-
-      pub refused_rest : (l : List ℕ) → q.at < length s → Says s (Refused Parentheses) l l
+    module _ (q : Pos) (got : ChainSays s origin old work (Ok q)) where
+      pub refused_rest : (l : List Row) → q.at < length s → Says s (Err Parentheses) l l
       refused_rest l i = refuses l Parentheses (parse_left_over (rw (close_here s q.at i got.1.stops) at got.1))
 
       held : Held 0 0 work q.rows q.cites (got.0 ◂ none)
@@ -79,8 +74,6 @@ module _ (s : List ℕ) where
         cites = q.cites;
         held = held;
         number = many_one got.0;
-        low = (rows_high c).1;
-        rows_low = omega (arith, (rows_high c).0);
         fits = omega (arith, high, span_one got.0);
       }
 
@@ -90,8 +83,8 @@ module _ (s : List ℕ) where
       pub rows_fit : (room : ℕ) → cites_in s ≤ citation_limit → 2 * cites_in s ≤ room + 1 → q.rows ≤ room
       rows_fit room c k = omega (arith, (rows_high c).0)
 
-      pub read_all : (l new : List ℕ) → cites_in s ≤ citation_limit → length s ≤ q.at → Placed work q.rows 1 q.rows l new
-          → Says s (Rows q.rows) l new
+      pub read_all : (l new : List Row) → cites_in s ≤ citation_limit → length s ≤ q.at → Placed work q.rows 1 q.rows l new
+          → Says s (Ok q.rows) l new
       read_all l new c i p =
           let z : q.rows - spans (got.0 ◂ none) ≡ 0 = omega (arith, high, span_one got.0) in
           let w : new ≡ packed (rows 0 got.0) ++ drop q.rows l =

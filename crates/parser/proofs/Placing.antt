@@ -2,7 +2,7 @@
 use mathlib.Core.Path.{◌≡◌, refl, sym, ap, ◌∙◌, subst}
 use mathlib.Core.Bool.{Bool, true, false, cond}
 use mathlib.Core.List.{List, [], ◌∷◌, ◌++◌, append_assoc}
-use Prim.Native.Nat.{ℕ, suc, ◌+◌, ◌-◌, ◌/◌, ◌%◌, ◌≤◌, ◌<◌}
+use Prim.Native.Nat.{ℕ, suc, ◌+◌, ◌-◌, ◌≤◌, ◌<◌}
 use native.Mathlib.Omega.{arith}
 use lib.Dec.{eqb}
 use lib.ListN.{length, get_or, take, drop, set, take-append-drop}
@@ -13,13 +13,9 @@ use Rattle.grammar.specs.Rows.{many, rows, rows_of, span, spans, children}
 use Rattle.grammar.specs.Shape.{rows_append}
 use Rattle.parser.specs.Packed.{pack, packed, kind_of_root}
 use Rattle.parser.specs.States.{Held, Stand, Placed}
-use Rattle.parser.proofs.Orders.{kind_of_pack, number_of_pack, size_of_pack, spans_append, packed_append, rows_one, span_one, count_one, Last, last_of, Root, root}
+use Rattle.parser.specs.declared.Row.{Row}
+use Rattle.parser.proofs.Orders.{spans_append, packed_append, rows_one, span_one, Last, last_of, Root, root}
 use Rattle.parser.proofs.Holding.{held_children, held_root, held_before, held_last}
-
-many_spans : (es : Exprs) → many es ≤ spans es
-unfolding many spans
-many_spans none = omega arith
-many_spans (more e es) = omega (arith, many_spans es, (root 0 e).sized)
 
 -- nothing to place
 none_left : (es : Exprs) → many es ≡ 0 → es ≡ none
@@ -27,17 +23,17 @@ unfolding many
 none_left none h = refl
 none_left (more e es) h = absurd (omega arith)
 
-nothing : (n end : ℕ) (old : List ℕ) → old ≡ take (end - spans none) old ++ (packed (rows_of n none) ++ drop end old)
+nothing : (n end : ℕ) (old : List Row) → old ≡ take (end - spans none) old ++ (packed (rows_of n none) ++ drop end old)
 unfolding spans packed rows
 nothing n end old = let z : end - 0 ≡ end = omega arith in rw z (sym (take-append-drop end old))
 
-pub place_none : (work : List ℕ) (top count end : ℕ) (old : List ℕ) → count ≡ 0 → Placed work top count end old old
+pub place_none : (work : List Row) (top count end : ℕ) (old : List Row) → count ≡ 0 → Placed work top count end old old
 place_none work top count end old z = record {
   is = λ t. nothing t.first end old
       ∙ ap (λ es. take (end - spans es) old ++ (packed (rows_of t.first es) ++ drop end old)) (sym (none_left t.trees (t.number ∙ z)));
 }
 
-module _ (work : List ℕ) (top m end : ℕ) (t : Stand work top m end) (some : ¬ (m ≡ 0)) where
+module _ (work : List Row) (top m end : ℕ) (t : Stand work top m end) (some : ¬ (m ≡ 0)) where
   abbrev cut : Last t.trees
   cut = last_of t.trees (omega (arith, t.number))
 
@@ -71,26 +67,14 @@ module _ (work : List ℕ) (top m end : ℕ) (t : Stand work top m end) (some : 
   top_is : top ≡ mid + span e
   top_is = omega (arith, last.sized, span_one e)
 
-  cites_is : t.cites ≡ next + count e
-  cites_is = omega (arith, last.counted, count_one e)
-
-  value_is : get_or work (top - 1) 0 ≡ r.value
+  value_is : get_or work (top - 1) (pack 0 0 0) ≡ r.value
   value_is = held_root mid next work top t.cites e last
 
-  small : span e < 65536
-  small = omega (arith, top_is, t.rows_low)
+  size_is : r.value.size ≡ span e
+  size_is = ap (λ (x : Row). x.size) r.is
 
-  leaf_number : kind_of_root e ≡ 0 → r.number < 65536
-  leaf_number k = let l = r.leaf k in omega (arith, l.0, l.2, cites_is, t.low)
-
-  inner_number : ¬ (kind_of_root e ≡ 0) → r.number < 65536
-  inner_number k = omega (arith, r.inner k, many_spans (children e), r.sized, small)
-
-  size_is : r.value % 65536 ≡ span e
-  size_is = ap (λ x. x % 65536) r.is ∙ size_of_pack (kind_of_root e) r.number (span e) small
-
-  abbrev child_count : ℕ → ℕ
-  child_count v = cond (eqb (v / 4294967296) 0) 0 (v / 65536 % 65536)
+  abbrev child_count : Row → ℕ
+  child_count v = cond (eqb v.kind 0) 0 v.number
 
   no-children : many none ≡ 0
   unfolding many
@@ -100,20 +84,15 @@ module _ (work : List ℕ) (top m end : ℕ) (t : Stand work top m end) (some : 
   kids_is = ap child_count r.is ∙ go (eqb (kind_of_root e) 0) refl
     where
       go : (b : Bool) → eqb (kind_of_root e) 0 ≡ b → child_count (pack (kind_of_root e) r.number (span e)) ≡ many (children e)
-      go true z =
-          let k = eqb-true (kind_of_root e) 0 z in
-          rw (kind_of_pack (kind_of_root e) r.number (span e) (leaf_number k) small, z) (sym no-children ∙ ap many (sym (r.leaf k).1))
-      go false z =
-          let k = eqb-false (kind_of_root e) 0 z in
-          rw (kind_of_pack (kind_of_root e) r.number (span e) (inner_number k) small, z)
-          (number_of_pack (kind_of_root e) r.number (span e) (inner_number k) small ∙ r.inner k)
+      go true z = rw z (sym no-children ∙ ap many (sym (r.leaf (eqb-true (kind_of_root e) 0 z)).1))
+      go false z = rw z (r.inner (eqb-false (kind_of_root e) 0 z))
 
-  module _ (row z kids : ℕ) (row_is : row ≡ get_or work (top - 1) 0) (z-is : z ≡ row % 65536) (kids-are : kids ≡ child_count row) where
+  module _ (row : Row) (z kids : ℕ) (row_is : row ≡ get_or work (top - 1) (pack 0 0 0)) (z-is : z ≡ row.size) (kids-are : kids ≡ child_count row) where
     row-value : row ≡ r.value
     row-value = row_is ∙ value_is
 
     size : z ≡ span e
-    size = z-is ∙ ap (λ x. x % 65536) row-value ∙ size_is
+    size = z-is ∙ ap (λ (x : Row). x.size) row-value ∙ size_is
 
     pub size_fits : (1 ≤ z) × (z ≤ end) × (z ≤ top)
     size_fits = (omega (arith, size, r.sized), omega (arith, size, all, t.fits), omega (arith, size, top_is))
@@ -126,8 +105,6 @@ module _ (work : List ℕ) (top m end : ℕ) (t : Stand work top m end) (some : 
       cites = next + length (citations_of (children e));
       held = held_children mid next work top t.cites e last;
       number = sym (kids-are ∙ ap child_count row-value ∙ kids_is);
-      low = omega (arith, r.counted, cites_is, t.low);
-      rows_low = omega (arith, t.rows_low);
       fits = omega (arith, all, t.fits, r.sized);
     }
 
@@ -139,8 +116,6 @@ module _ (work : List ℕ) (top m end : ℕ) (t : Stand work top m end) (some : 
       cites = next;
       held = subst (λ x. Held t.start t.first work x next fs) (omega (arith, top_is, size)) before;
       number = omega (arith, t.number, cut.number);
-      low = omega (arith, cites_is, t.low);
-      rows_low = omega (arith, t.rows_low);
       fits = omega (arith, all, t.fits, size);
     }
 
@@ -150,13 +125,13 @@ module _ (work : List ℕ) (top m end : ℕ) (t : Stand work top m end) (some : 
     pub before-stand : Stand work (top - z) (m - 1) (end - z)
     before-stand = stand_before
 
-    module _ (old mids new : List ℕ) (room : end ≤ length old)
+    module _ (old mids new : List Row) (room : end ≤ length old)
         (inner : Placed work (top - 1) kids end (set old (end - z) row) mids)
         (outer : Placed work (top - z) (m - 1) (end - z) mids new) where
       abbrev at : ℕ
       at = end - z
 
-      abbrev below : List ℕ
+      abbrev below : List Row
       below = packed (rows_of next (children e))
 
       fitting : at < length old

@@ -1,10 +1,10 @@
 -- Steps of reading: atoms, juxtapositions, chains. Assumes nothing.
+use Rattle.std.specs.Prelude.{Ok, Err}
 use mathlib.Core.Path.{◌≡◌, refl, ap, ◌∙◌}
 use mathlib.Core.Bool.{true, false, true≢false, false≢true}
 use mathlib.Core.List.{List, [], ◌∷◌}
 use Prim.Native.Nat.{ℕ}
 use native.Mathlib.Omega.{arith}
-use Rattle.refusal.specs.Result.{ok, refuse}
 use Rattle.refusal.specs.declared.Refusal.{Refusal}
 use Rattle.refusal.specs.declared.Refusal.TheVariants.{MissingOperand, Parentheses}
 use Rattle.grammar.specs.Expr.{Op, And, Or, Xor, Expr, Exprs, cite, join, none, more, ◌◂◌, ◌⧺◌, ◌▸◌}
@@ -77,7 +77,7 @@ pub atom_inner : {ts : List Tok} {why : Refusal} → NoChain ts why → NoAtom (
 unfolding read
 atom_inner h = record { goes = λ l run w d. h.goes (within l run w) }
 
-missing : (ts : List Tok) → Ends ts → (l : Left) (run : Exprs) (w : Opens) → Due ts run → read ts l run w ≡ refuse MissingOperand
+missing : (ts : List Tok) → Ends ts → (l : Left) (run : Exprs) (w : Opens) → Due ts run → read ts l run w ≡ Err MissingOperand
 unfolding read
 missing [] q l none w d = refl
 missing (op o ∷ ts) q l none w d = refl
@@ -165,14 +165,14 @@ chain_whole {o} {es} h q = record { stops = q; side = chain o es; is = refl; goe
 
 -- all tokens
 
-pub parse_done : {ts : List Tok} {e : Expr} → Chain ts [] e → parse ts ≡ ok e
+pub parse_done : {ts : List Tok} {e : Expr} → Chain ts [] e → parse ts ≡ Ok e
 unfolding parse resume
-parse_done {e} h = h.goes top ∙ ap ok h.is
+parse_done {e} h = h.goes top ∙ ap Ok h.is
 
-pub parse_left_over : {ts us : List Tok} {e : Expr} → Chain ts (closing ∷ us) e → parse ts ≡ refuse Parentheses
+pub parse_left_over : {ts us : List Tok} {e : Expr} → Chain ts (closing ∷ us) e → parse ts ≡ Err Parentheses
 unfolding parse resume
 parse_left_over h = h.goes top
 
-pub parse_fails : {ts : List Tok} {why : Refusal} → NoChain ts why → parse ts ≡ refuse why
+pub parse_fails : {ts : List Tok} {why : Refusal} → NoChain ts why → parse ts ≡ Err why
 unfolding parse
 parse_fails f = f.goes top

@@ -1,4 +1,5 @@
 -- The parser's turns: what was read and written before, and after. Assumes nothing.
+use Rattle.std.specs.Prelude.{Ok, Err}
 use mathlib.Core.Path.{◌≡◌, refl, sym, ap, ◌∙◌, subst}
 use mathlib.Core.Bool.{Bool, true, false, cond}
 use mathlib.Core.List.{List, [], ◌∷◌, ◌++◌}
@@ -19,8 +20,7 @@ use Rattle.parser.specs.Tokens.{from, op_ahead, operand_ahead}
 use Rattle.parser.specs.Reading.{Run, Jux, Waits, Links}
 use Rattle.parser.specs.States.{Held, Within, Tree, Ready, Front, AtomSays, JuxSays, ChainSays, Running, Before, After, Whole, Turn, noded, past, led_pos, grown_pos, noded_rows, grown_rows}
 use Rattle.parser.specs.declared.Pos.{Pos}
-use Rattle.parser.specs.declared.Step.{Step}
-use Rattle.parser.specs.declared.Step.TheVariants.{On, Off}
+use Rattle.parser.specs.declared.Row.{Row}
 use Rattle.parser.proofs.Steps.{ends-if, stops_if, atom_cite, atom_group, atom_unclosed, atom_inner, atom_missing, run-first, run_more, run_fails, run_ends, jux_fails, chain_fails, chain_lead, chain_led, chain_operand, operand_fails, chain_again, chain_other, chain_whole, same_self}
 use Rattle.parser.proofs.Ahead.{from_end, cite_here, open_here, no_operand, close_here, Sign, sign_here, op_inside, cites_cite, cites-any}
 use Rattle.parser.proofs.Orders.{many_append, many_one, span_one, count_one, root}
@@ -67,12 +67,12 @@ module _ (s : List ℕ) (p : Pos) where
   }
 
 -- a tree has rows
-pub tree_grew : (s : List ℕ) (p : Pos) (work : List ℕ) (q : Pos) (e : Expr) → Tree s p work q e → p.rows < q.rows
+pub tree_grew : (s : List ℕ) (p : Pos) (work : List Row) (q : Pos) (e : Expr) → Tree s p work q e → p.rows < q.rows
 tree_grew s p work q e t = omega (arith, t.held.sized, span_one e, (root p.cites e).sized)
 
 -- a node of the operands that wait
 
-module _ (s : List ℕ) (p : Pos) (work : List ℕ) (q : Pos) (es : Exprs)
+module _ (s : List ℕ) (p : Pos) (work : List Row) (q : Pos) (es : Exprs)
     (h : Held p.rows p.cites work q.rows q.cites es) (w : Within s p q.at q.rows q.cites q.kids)
     (kidded : q.kids ≡ many es) (two : 2 ≤ q.kids) (room : q.rows < length work) where
   row_is : pack q.kind q.kids (q.rows + 1 - p.rows) ≡ node_row q.kind es
@@ -109,16 +109,16 @@ module _ (s : List ℕ) (p : Pos) (work : List ℕ) (q : Pos) (es : Exprs)
 
 -- atoms
 
-module _ (s : List ℕ) (p : Pos) (old : List ℕ) where
-  pub atom_at_end : p.at ≡ length s → AtomSays s p old old (Off MissingOperand)
+module _ (s : List ℕ) (p : Pos) (old : List Row) where
+  pub atom_at_end : length s ≤ p.at → AtomSays s p old old (Err MissingOperand)
   atom_at_end h = rw (from_end s p.at (omega arith)) (atom_missing [] tt)
 
   module _ (here : p.at < length s) where
-    pub atom_none : ¬ (get_or s p.at 0 ≡ 5) → ¬ (get_or s p.at 0 ≡ 0) → AtomSays s p old old (Off MissingOperand)
+    pub atom_none : ¬ (get_or s p.at 0 ≡ 5) → ¬ (get_or s p.at 0 ≡ 0) → AtomSays s p old old (Err MissingOperand)
     atom_none h k = atom_missing (from s p.at) (no_operand s p.at here k h)
 
-    pub atom_cited : get_or s p.at 0 ≡ 0 → p.rows < length old → (v : ℕ) → v ≡ pack 0 p.cites 1
-        → AtomSays s p old (set old p.rows v) (On (record { at = p.at + 1; rows = p.rows + 1; cites = p.cites + 1; kind = 0; kids = 0 }))
+    pub atom_cited : get_or s p.at 0 ≡ 0 → p.rows < length old → (v : Row) → v ≡ pack 0 p.cites 1
+        → AtomSays s p old (set old p.rows v) (Ok (record { at = p.at + 1; rows = p.rows + 1; cites = p.cites + 1; kind = 0; kids = 0 }))
     unfolding kind_of_root children many
     atom_cited k l v e = (
       cite [],
@@ -142,24 +142,19 @@ module _ (s : List ℕ) (p : Pos) (old : List ℕ) where
       front_set p.rows old p.rows v (omega arith),
     )
 
-    module _ (open_at : get_or s p.at 0 ≡ 5) (new : List ℕ) where
+    module _ (open_at : get_or s p.at 0 ≡ 5) (new : List Row) where
       abbrev inner : Pos
       inner = past p p.kind p.rows p.kids
 
-      pub atom_fails : (r : Step) (why : Refusal) → r ≡ Off why → ChainSays s inner old new r → AtomSays s p old new (Off why)
-      atom_fails r why e h =
-          let g : ChainSays s inner old new (Off why) = rw e at h in
-          rw (open_here s p.at here open_at) (atom_inner g)
+      pub atom_fails : (why : Refusal) → ChainSays s inner old new (Err why) → AtomSays s p old new (Err why)
+      atom_fails why g = rw (open_here s p.at here open_at) (atom_inner g)
 
-      pub atom_open : (r : Step) (q : Pos) → r ≡ On q → ChainSays s inner old new r → q.at ≡ length s → AtomSays s p old new (Off Parentheses)
-      atom_open r q e h z =
-          let g : ChainSays s inner old new (On q) = rw e at h in
-          rw (open_here s p.at here open_at) (atom_unclosed (rw (from_end s q.at (omega arith)) at g.1))
+      pub atom_open : (q : Pos) → ChainSays s inner old new (Ok q) → q.at ≡ length s → AtomSays s p old new (Err Parentheses)
+      atom_open q g z = rw (open_here s p.at here open_at) (atom_unclosed (rw (from_end s q.at (omega arith)) at g.1))
 
-      pub atom_grouped : (r : Step) (q : Pos) → r ≡ On q → ChainSays s inner old new r → ¬ (q.at ≡ length s)
-          → AtomSays s p old new (On (past q q.kind q.rows q.kids))
-      atom_grouped r q e h z =
-          let g : ChainSays s inner old new (On q) = rw e at h in
+      pub atom_grouped : (q : Pos) → ChainSays s inner old new (Ok q) → ¬ (q.at ≡ length s)
+          → AtomSays s p old new (Ok (past q q.kind q.rows q.kids))
+      atom_grouped q g z =
           let t = g.2 in
           let w = t.within in
           let i : q.at < length s = omega (arith, w.inside) in (
@@ -206,13 +201,12 @@ gather_more (more f none) e h = refl
 gather_more (more f (more g run)) e h = refl
 
 module _ (s : List ℕ) (p : Pos) where
-  pub jux_passes : (old new : List ℕ) (r : Step) (why : Refusal) → r ≡ Off why → AtomSays s p old new r → JuxSays s p old new (Off why)
-  jux_passes old new r why e h = let g : AtomSays s p old new (Off why) = rw e at h in jux_fails g
+  pub jux_passes : (old new : List Row) (why : Refusal) → AtomSays s p old new (Err why) → JuxSays s p old new (Err why)
+  jux_passes old new why g = jux_fails g
 
-  pub run_starts : (old new : List ℕ) (r : Step) (q : Pos) → r ≡ On q → AtomSays s p old new r → Running s p new q 1 × Front p.rows old new
+  pub run_starts : (old new : List Row) (q : Pos) → AtomSays s p old new (Ok q) → Running s p new q 1 × Front p.rows old new
   unfolding many
-  run_starts old new r q e h =
-      let g : AtomSays s p old new (On q) = rw e at h in
+  run_starts old new q g =
       let t = g.2 in (
         record {
           before = none;
@@ -230,16 +224,13 @@ module _ (s : List ℕ) (p : Pos) where
         g.3,
       )
 
-  module _ (work : List ℕ) (q : Pos) (kids : ℕ) (run : Running s p work q kids) where
-    pub run_breaks : true ≡ operand_ahead (from s q.at) → (old new : List ℕ) (r : Step) (why : Refusal) → r ≡ Off why → AtomSays s q work new r
-        → JuxSays s p old new (Off why)
-    run_breaks b old new r why e h =
-        let g : AtomSays s q work new (Off why) = rw e at h in
-        run_fails run.goes (sym b) g
+  module _ (work : List Row) (q : Pos) (kids : ℕ) (run : Running s p work q kids) where
+    pub run_breaks : true ≡ operand_ahead (from s q.at) → (old new : List Row) (why : Refusal) → AtomSays s q work new (Err why)
+        → JuxSays s p old new (Err why)
+    run_breaks b old new why g = run_fails run.goes (sym b) g
 
-    pub run_goes : (new : List ℕ) (r : Step) (n : Pos) → r ≡ On n → AtomSays s q work new r → Running s p new n (kids + 1) × Front p.rows work new
-    run_goes new r n e h =
-        let g : AtomSays s q work new (On n) = rw e at h in
+    pub run_goes : (new : List Row) (n : Pos) → AtomSays s q work new (Ok n) → Running s p new n (kids + 1) × Front p.rows work new
+    run_goes new n g =
         let t = g.2 in
         let total : many (run.before ▸ run.last) ≡ many run.before + 1 = many_append run.before (run.last ◂ none) ∙ ap (λ x. many run.before + x) (many_one run.last) in (
           record {
@@ -258,8 +249,8 @@ module _ (s : List ℕ) (p : Pos) where
           front_less p.rows q.rows work new run.within.above g.3,
         )
 
-    module _ (old : List ℕ) (b : false ≡ operand_ahead (from s q.at)) (f : Front p.rows old work) where
-      pub jux_one : kids ≡ 1 → JuxSays s p old work (On q)
+    module _ (old : List Row) (b : false ≡ operand_ahead (from s q.at)) (f : Front p.rows old work) where
+      pub jux_one : kids ≡ 1 → JuxSays s p old work (Ok q)
       jux_one k =
           let z : run.before ≡ none = none_before run.before (omega (arith, run.number)) in
           let same-run : run.before ▸ run.last ≡ none ▸ run.last = ap (λ x. x ▸ run.last) z in
@@ -279,7 +270,7 @@ module _ (s : List ℕ) (p : Pos) where
           )
 
       pub jux_many : ¬ (kids ≡ 1) → q.rows < length work → (m : Pos) → m ≡ record { at = q.at; rows = q.rows; cites = q.cites; kind = 1; kids = kids }
-          → JuxSays s p old (noded_rows work p.rows m) (On (noded m))
+          → JuxSays s p old (noded_rows work p.rows m) (Ok (noded m))
       jux_many k room m e =
           let total : many (run.before ▸ run.last) ≡ many run.before + 1 = many_append run.before (run.last ◂ none) ∙ ap (λ x. many run.before + x) (many_one run.last) in
           let some : ¬ (many run.before ≡ 0) = λ z. k (run.number ∙ ap (λ x. x + 1) z) in
@@ -350,16 +341,14 @@ own_cites (Then es) h = refl
 own_cites (join o es) h = refl
 
 module _ (s : List ℕ) (p : Pos) where
-  pub chain_passes : (old new : List ℕ) (r : Step) (why : Refusal) → r ≡ Off why → JuxSays s p old new r → ChainSays s p old new (Off why)
-  chain_passes old new r why e h = let g : JuxSays s p old new (Off why) = rw e at h in chain_fails g
+  pub chain_passes : (old new : List Row) (why : Refusal) → JuxSays s p old new (Err why) → ChainSays s p old new (Err why)
+  chain_passes old new why g = chain_fails g
 
-  pub chain_alone : (old new : List ℕ) (r : Step) (q : Pos) → r ≡ On q → JuxSays s p old new r → 0 ≡ op_ahead (from s q.at) → ChainSays s p old new (On q)
-  chain_alone old new r q e h z =
-      let g : JuxSays s p old new (On q) = rw e at h in
-      (g.0, chain_lead g.1 (stops_if (from s q.at) g.1.ends (sym z)), g.2, g.3)
+  pub chain_alone : (old new : List Row) (q : Pos) → JuxSays s p old new (Ok q) → 0 ≡ op_ahead (from s q.at) → ChainSays s p old new (Ok q)
+  chain_alone old new q g z = (g.0, chain_lead g.1 (stops_if (from s q.at) g.1.ends (sym z)), g.2, g.3)
 
   -- past the operator after a lead
-  module _ (work : List ℕ) (q : Pos) (e : Expr) (goes : Jux (from s p.at) (from s q.at) e) (t : Tree s p work q e)
+  module _ (work : List Row) (q : Pos) (e : Expr) (goes : Jux (from s p.at) (from s q.at) e) (t : Tree s p work q e)
       (k : ℕ) (is : k ≡ op_ahead (from s q.at)) (some : ¬ (k ≡ 0)) where
     abbrev sign_at : Sign (from s q.at) (from s (q.at + 1)) (op_ahead (from s q.at))
     sign_at = sign_here s q.at (λ z. some (is ∙ z))
@@ -432,20 +421,17 @@ module _ (s : List ℕ) (p : Pos) where
         go true z = own (eqb-true q.kind k z)
         go false z = other (eqb-false q.kind k z)
 
-  pub chain_starts : (old new : List ℕ) (r : Step) (q : Pos) → r ≡ On q → JuxSays s p old new r → (k : ℕ) → k ≡ op_ahead (from s q.at) → ¬ (k ≡ 0)
+  pub chain_starts : (old new : List Row) (q : Pos) → JuxSays s p old new (Ok q) → (k : ℕ) → k ≡ op_ahead (from s q.at) → ¬ (k ≡ 0)
       → Before s p new (led_pos q k) × Front p.rows old new
-  chain_starts old new r q e h k is some =
-      let g : JuxSays s p old new (On q) = rw e at h in
-      (led-before new q g.0 g.1 g.2 k is some, g.3)
+  chain_starts old new q g k is some = (led-before new q g.0 g.1 g.2 k is some, g.3)
 
-  module _ (work : List ℕ) (q : Pos) (b : Before s p work q) where
-    pub chain_breaks : (old new : List ℕ) (r : Step) (why : Refusal) → r ≡ Off why → JuxSays s q work new r → ChainSays s p old new (Off why)
-    chain_breaks old new r why e h = let g : JuxSays s q work new (Off why) = rw e at h in operand_fails b.goes g
+  module _ (work : List Row) (q : Pos) (b : Before s p work q) where
+    pub chain_breaks : (old new : List Row) (why : Refusal) → JuxSays s q work new (Err why) → ChainSays s p old new (Err why)
+    chain_breaks old new why g = operand_fails b.goes g
 
-    pub chain_goes : (new : List ℕ) (r : Step) (n : Pos) → r ≡ On n → JuxSays s q work new r
+    pub chain_goes : (new : List Row) (n : Pos) → JuxSays s q work new (Ok n)
         → After s p new (record { at = n.at; rows = n.rows; cites = n.cites; kind = q.kind; kids = q.kids + 1 }) × Front p.rows work new
-    chain_goes new r n e h =
-        let g : JuxSays s q work new (On n) = rw e at h in
+    chain_goes new n g =
         let t = g.2 in
         let total : many (b.es ▸ g.0) ≡ many b.es + 1 = many_append b.es (g.0 ◂ none) ∙ ap (λ x. many b.es + x) (many_one g.0) in (
           record {
@@ -462,7 +448,7 @@ module _ (s : List ℕ) (p : Pos) where
         )
 
   -- past the operator after an operand, or at the end
-  module _ (work : List ℕ) (q : Pos) (a : After s p work q) (room : q.rows < length work) where
+  module _ (work : List Row) (q : Pos) (a : After s p work q) (room : q.rows < length work) where
     tree : Tree s p (noded_rows work p.rows q) (noded q) (join a.sign a.es)
     tree = made_join s p work q a.es a.held a.within a.kidded a.some room a.sign a.kinded
 
@@ -556,15 +542,15 @@ module _ (s : List ℕ) (p : Pos) where
         go false = front_set p.rows work q.rows _ a.within.above
 
   -- which turn it is
-  pub turn_before : (work : List ℕ) (k : ℕ) (q : Pos) → Turn s p work k q → ¬ (k ≡ 0) → Before s p work q
+  pub turn_before : (work : List Row) (k : ℕ) (q : Pos) → Turn s p work k q → ¬ (k ≡ 0) → Before s p work q
   turn_before work zero q t h = absurd (h refl)
   turn_before work (suc k) q t h = t
 
-  pub before_turn : (work : List ℕ) (k : ℕ) (q : Pos) → Before s p work q → ¬ (k ≡ 0) → Turn s p work k q
+  pub before_turn : (work : List Row) (k : ℕ) (q : Pos) → Before s p work q → ¬ (k ≡ 0) → Turn s p work k q
   before_turn work zero q b h = absurd (h refl)
   before_turn work (suc k) q b h = b
 
-  pub turn_whole : (old work : List ℕ) (k : ℕ) (q : Pos) → Turn s p work k q → k ≡ 0 → Front p.rows old work → ChainSays s p old work (On q)
+  pub turn_whole : (old work : List Row) (k : ℕ) (q : Pos) → Turn s p work k q → k ≡ 0 → Front p.rows old work → ChainSays s p old work (Ok q)
   turn_whole old work zero q t h f = (t.tree, t.goes, t.made, f)
   turn_whole old work (suc k) q t h f = absurd (omega arith)
 

@@ -1,14 +1,16 @@
--- Node rows as numbers, in the order of the tree and with each node after its operands. Assumes nothing.
-use Rattle.std.specs.Prelude.{List, [], ◌∷◌, ◌++◌, ℕ, suc, ◌+◌, ◌*◌}
+-- Node rows as the parser writes them, in the order of the tree and with each node after its operands. Assumes nothing.
+use Rattle.std.specs.Prelude.{List, [], ◌∷◌, ◌++◌, ℕ, suc, ◌+◌}
 use Rattle.grammar.specs.Expr.{Expr, Exprs, cite, Then, join, none, more, count}
-use Rattle.grammar.specs.Rows.{Row, row, cite_kind, then_kind, op_kind, many, spans, children}
+use Rattle.grammar.specs.Rows as grammar
+use Rattle.grammar.specs.Rows.{row, cite_kind, then_kind, op_kind, many, spans, children}
+use Rattle.parser.specs.declared.Row.{Row}
 
--- a row as one number: kind; how many children, or which citation; how many rows in the subtree
-abbrev pub pack : (kind number size : ℕ) → ℕ
-pack k m z = k * 4294967296 + m * 65536 + z
+-- a row: kind; how many children, or which citation; how many rows in the subtree
+abbrev pub pack : (kind number size : ℕ) → Row
+pack k m z = record { kind = k; number = m; size = z }
 
--- rows as numbers
-unfoldable pub packed : List Row → List ℕ
+-- rows as the parser writes them
+unfoldable pub packed : List grammar.Row → List Row
 packed [] = []
 packed (row k m z ∷ rs) = pack k m z ∷ packed rs
 
@@ -23,17 +25,17 @@ abbrev pub operands : Expr → ℕ
 operands e = many (children e)
 
 -- an inner node's row
-abbrev pub node_row : ℕ → Exprs → ℕ
+abbrev pub node_row : ℕ → Exprs → Row
 node_row k es = pack k (many es) (suc (spans es))
 
 unfoldable mutual
   -- the rows of a tree in postorder, its first citation having the number n
-  pub postorder : ℕ → Expr → List ℕ
+  pub postorder : ℕ → Expr → List Row
   postorder n (cite t) = pack cite_kind n 1 ∷ []
   postorder n (Then es) = postorders n es ++ (node_row then_kind es ∷ [])
   postorder n (join o es) = postorders n es ++ (node_row (op_kind o) es ∷ [])
 
   -- the rows of operands in postorder, one operand after another
-  pub postorders : ℕ → Exprs → List ℕ
+  pub postorders : ℕ → Exprs → List Row
   postorders n none = []
   postorders n (more e es) = postorder n e ++ postorders (n + count e) es

@@ -1,6 +1,5 @@
 -- How reading goes on after an atom, a juxtaposition, a chain: `ts` are the tokens before it, `us` those after it. Assumes nothing.
-use Rattle.std.specs.Prelude.{◌≡◌, List, [], ◌∷◌}
-use Rattle.refusal.specs.Result.{refuse}
+use Rattle.std.specs.Prelude.{◌≡◌, List, [], ◌∷◌, Err}
 use Rattle.refusal.specs.declared.Refusal.{Refusal}
 use Rattle.grammar.specs.Expr.{Op, Expr, Exprs, none, more, ◌◂◌, ◌▸◌, Some}
 use Rattle.grammar.specs.Lex.{Tok, cited, op, opening, closing}
@@ -32,7 +31,7 @@ pub record Atom (ts us : List Tok) (e : Expr) : Type 0 where
 
 -- no atom can be read
 pub record NoAtom (ts : List Tok) (why : Refusal) : Type 0 where
-  pub goes : (l : Left) (run : Exprs) (w : Opens) → Due ts run → read ts l run w ≡ refuse why
+  pub goes : (l : Left) (run : Exprs) (w : Opens) → Due ts run → read ts l run w ≡ Err why
 
 -- juxtaposed operands were read, and more may follow
 pub record Run (ts us : List Tok) (run : Exprs) : Type 0 where
@@ -46,7 +45,7 @@ pub record Jux (ts us : List Tok) (e : Expr) : Type 0 where
 
 -- no juxtaposition can be read
 pub record NoJux (ts : List Tok) (why : Refusal) : Type 0 where
-  pub goes : (l : Left) (w : Opens) → read ts l none w ≡ refuse why
+  pub goes : (l : Left) (w : Opens) → read ts l none w ≡ Err why
 
 -- a chain was read up to an operator, with which its operands are es
 pub record Waits (ts us : List Tok) (o : Op) (es : Exprs) : Type 0 where
@@ -68,4 +67,4 @@ pub record Chain (ts us : List Tok) (e : Expr) : Type 0 where
 
 -- no chain can be read
 pub record NoChain (ts : List Tok) (why : Refusal) : Type 0 where
-  pub goes : (w : Opens) → read ts start none w ≡ refuse why
+  pub goes : (w : Opens) → read ts start none w ≡ Err why

@@ -1,5 +1,6 @@
 -- What the parser's own functions say of the tokens read and the rows written. Assumes nothing.
-use Rattle.std.specs.Prelude.{◌≡◌, cond, List, ◌++◌, ℕ, zero, suc, ◌+◌, ◌-◌, ◌*◌, ◌≤◌, ◌<◌, eqb, length, take, drop, set}
+use Rattle.std.specs.Prelude.{◌≡◌, cond, List, ◌++◌, ℕ, zero, suc, ◌+◌, ◌-◌, ◌*◌, ◌≤◌, ◌<◌, eqb, length, take, drop, set, Result, Ok, Err}
+use Rattle.refusal.specs.declared.Refusal.{Refusal}
 use Rattle.utf8.specs.Limits.{text_limit}
 use Rattle.grammar.specs.Expr.{Op, Expr, Exprs, none, ◌◂◌, ◌⧺◌, citations_of}
 use Rattle.grammar.specs.Rows.{op_kind, many, rows_of, spans}
@@ -9,11 +10,10 @@ use Rattle.parser.specs.Answer.{cites_in}
 use Rattle.parser.specs.Tokens.{from}
 use Rattle.parser.specs.Reading.{Atom, NoAtom, Run, Jux, NoJux, Waits, Links, Chain, NoChain}
 use Rattle.parser.specs.declared.Pos.{Pos}
-use Rattle.parser.specs.declared.Step.{Step}
-use Rattle.parser.specs.declared.Step.TheVariants.{On, Off}
+use Rattle.parser.specs.declared.Row.{Row}
 
 -- the rows of trees in postorder stand from `start` up to `rows`
-pub record Held (start first : ℕ) (work : List ℕ) (rows cites : ℕ) (es : Exprs) : Type 0 where
+pub record Held (start first : ℕ) (work : List Row) (rows cites : ℕ) (es : Exprs) : Type 0 where
   pub fits : rows ≤ length work
   pub sized : rows ≡ start + spans es
   pub counted : cites ≡ first + length (citations_of es)
@@ -29,7 +29,7 @@ pub record Within (s : List ℕ) (p : Pos) (at rows cites kids : ℕ) : Type 0 w
   pub few : kids + p.cites ≤ cites
 
 -- one tree stands between p and q
-pub record Tree (s : List ℕ) (p : Pos) (work : List ℕ) (q : Pos) (e : Expr) : Type 0 where
+pub record Tree (s : List ℕ) (p : Pos) (work : List Row) (q : Pos) (e : Expr) : Type 0 where
   pub held : Held p.rows p.cites work q.rows q.cites (e ◂ none)
   pub within : Within s p q.at q.rows q.cites 1
   pub kinded : q.kind ≡ kind_of_root e
@@ -46,26 +46,26 @@ pub record Ready (s : List ℕ) (room : ℕ) (p : Pos) : Type 0 where
   pub space : p.rows + 2 * cites_in (drop p.at s) ≤ room + 1
 
 -- the first n rows are those that were there
-abbrev pub Front : ℕ → List ℕ → List ℕ → Type 0
+abbrev pub Front : ℕ → List Row → List Row → Type 0
 Front n old new = take n new ≡ take n old
 
 -- what `parse_atom` says
-abbrev pub AtomSays : List ℕ → Pos → List ℕ → List ℕ → Step → Type 0
-AtomSays s p old new (On q) = (e : Expr) × Atom (from s p.at) (from s q.at) e × Tree s p new q e × Front p.rows old new
-AtomSays s p old new (Off why) = NoAtom (from s p.at) why
+abbrev pub AtomSays : List ℕ → Pos → List Row → List Row → Result Pos Refusal → Type 0
+AtomSays s p old new (Ok q) = (e : Expr) × Atom (from s p.at) (from s q.at) e × Tree s p new q e × Front p.rows old new
+AtomSays s p old new (Err why) = NoAtom (from s p.at) why
 
 -- what `parse_juxtaposition` says
-abbrev pub JuxSays : List ℕ → Pos → List ℕ → List ℕ → Step → Type 0
-JuxSays s p old new (On q) = (e : Expr) × Jux (from s p.at) (from s q.at) e × Tree s p new q e × Front p.rows old new
-JuxSays s p old new (Off why) = NoJux (from s p.at) why
+abbrev pub JuxSays : List ℕ → Pos → List Row → List Row → Result Pos Refusal → Type 0
+JuxSays s p old new (Ok q) = (e : Expr) × Jux (from s p.at) (from s q.at) e × Tree s p new q e × Front p.rows old new
+JuxSays s p old new (Err why) = NoJux (from s p.at) why
 
 -- what `parse_chain` says
-abbrev pub ChainSays : List ℕ → Pos → List ℕ → List ℕ → Step → Type 0
-ChainSays s p old new (On q) = (e : Expr) × Chain (from s p.at) (from s q.at) e × Tree s p new q e × Front p.rows old new
-ChainSays s p old new (Off why) = NoChain (from s p.at) why
+abbrev pub ChainSays : List ℕ → Pos → List Row → List Row → Result Pos Refusal → Type 0
+ChainSays s p old new (Ok q) = (e : Expr) × Chain (from s p.at) (from s q.at) e × Tree s p new q e × Front p.rows old new
+ChainSays s p old new (Err why) = NoChain (from s p.at) why
 
 -- juxtaposed operands, the last of them as q says
-pub record Running (s : List ℕ) (p : Pos) (work : List ℕ) (q : Pos) (kids : ℕ) : Type 0 where
+pub record Running (s : List ℕ) (p : Pos) (work : List Row) (q : Pos) (kids : ℕ) : Type 0 where
   pub before : Exprs
   pub last : Expr
   pub goes : Run (from s p.at) (from s q.at) (before ⧺ (last ◂ none))
@@ -79,7 +79,7 @@ pub record Running (s : List ℕ) (p : Pos) (work : List ℕ) (q : Pos) (kids : 
   pub wide : ¬ (q.kind ≡ 0) → 2 ≤ q.kids
 
 -- a chain before its next operand
-pub record Before (s : List ℕ) (p : Pos) (work : List ℕ) (q : Pos) : Type 0 where
+pub record Before (s : List ℕ) (p : Pos) (work : List Row) (q : Pos) : Type 0 where
   pub sign : Op
   pub es : Exprs
   pub goes : Waits (from s p.at) (from s q.at) sign es
@@ -90,7 +90,7 @@ pub record Before (s : List ℕ) (p : Pos) (work : List ℕ) (q : Pos) : Type 0 
   pub some : 1 ≤ q.kids
 
 -- a chain after an operand
-pub record After (s : List ℕ) (p : Pos) (work : List ℕ) (q : Pos) : Type 0 where
+pub record After (s : List ℕ) (p : Pos) (work : List Row) (q : Pos) : Type 0 where
   pub sign : Op
   pub es : Exprs
   pub goes : Links (from s p.at) (from s q.at) sign es
@@ -101,13 +101,13 @@ pub record After (s : List ℕ) (p : Pos) (work : List ℕ) (q : Pos) : Type 0 w
   pub some : 2 ≤ q.kids
 
 -- a whole chain
-pub record Whole (s : List ℕ) (p : Pos) (work : List ℕ) (q : Pos) : Type 0 where
+pub record Whole (s : List ℕ) (p : Pos) (work : List Row) (q : Pos) : Type 0 where
   pub tree : Expr
   pub goes : Chain (from s p.at) (from s q.at) tree
   pub made : Tree s p work q tree
 
 -- a chain at the operator of the kind `sign`, or whole if that is 0
-abbrev pub Turn : List ℕ → Pos → List ℕ → ℕ → Pos → Type 0
+abbrev pub Turn : List ℕ → Pos → List Row → ℕ → Pos → Type 0
 Turn s p work zero q = Whole s p work q
 Turn s p work (suc k) q = Before s p work q
 
@@ -129,25 +129,23 @@ grown_pos q sign =
     cond (eqb q.kind sign) (past q sign q.rows q.kids) (cond (eqb sign 0) (noded q) (past q sign (q.rows + 1) 1))
 
 -- the rows with that of the node of q's operands, which begin at `start`
-abbrev pub noded_rows : List ℕ → ℕ → Pos → List ℕ
+abbrev pub noded_rows : List Row → ℕ → Pos → List Row
 noded_rows work start q = set work q.rows (pack q.kind q.kids (q.rows + 1 - start))
 
 -- the rows of a chain after the operator `sign`
-abbrev pub grown_rows : List ℕ → ℕ → Pos → ℕ → List ℕ
+abbrev pub grown_rows : List Row → ℕ → Pos → ℕ → List Row
 grown_rows work start q sign = cond (eqb q.kind sign) work (noded_rows work start q)
 
 -- `count` trees stand in postorder before `top`, and their rows fit before `end`
-pub record Stand (work : List ℕ) (top count end : ℕ) : Type 0 where
+pub record Stand (work : List Row) (top count end : ℕ) : Type 0 where
   pub trees : Exprs
   pub start : ℕ
   pub first : ℕ
   pub cites : ℕ
   pub held : Held start first work top cites trees
   pub number : many trees ≡ count
-  pub low : cites ≤ citation_limit
-  pub rows_low : top ≤ 2 * citation_limit
   pub fits : spans trees ≤ end
 
 -- their rows in the order of the tree stand before `end`; the others are as they were
-pub record Placed (work : List ℕ) (top count end : ℕ) (old new : List ℕ) : Type 0 where
+pub record Placed (work : List Row) (top count end : ℕ) (old new : List Row) : Type 0 where
   pub is : (t : Stand work top count end) → new ≡ take (end - spans t.trees) old ++ (packed (rows_of t.first t.trees) ++ drop end old)

@@ -1,4 +1,5 @@
 -- Answer bytes as an oracle, and what `eval` answers. Assumes nothing.
+use Rattle.std.specs.Prelude.{Err}
 use mathlib.Core.Path.{◌≡◌, refl, sym, ap, ◌∙◌}
 use mathlib.Core.List.{List, [], ◌∷◌}
 use mathlib.Core.Bool.{true, false}
@@ -9,7 +10,7 @@ use lib.ListN.{length, get_or}
 use borrow.Author.Tests.{ne_eqb, eq-eqb, eqb-true}
 use Rattle.laws.specs.Tests.{and_both}
 use Rattle.text.specs.Bytes.{all}
-use Rattle.refusal.specs.Result.{refuse, then}
+use Rattle.refusal.specs.Result.{then}
 use Rattle.refusal.specs.declared.Refusal.TheVariants.{FailedAnswer, NotATree, WrongAnswers}
 use Rattle.grammar.specs.Expr.{count}
 use Rattle.grammar.proofs.Sizes.{few-nodes}
@@ -30,7 +31,7 @@ pub answered-at : (answers : List ℕ) (n x : ℕ) → n < length answers → ge
 answered-at answers n x h e = ap answered (sym e ∙ get_d_any answers n 0 failed h)
 
 -- from 4 on
-pub answered-failed : (x : ℕ) → 4 ≤ x → refuse FailedAnswer ≡ answered x
+pub answered-failed : (x : ℕ) → 4 ≤ x → Err FailedAnswer ≡ answered x
 unfolding answered
 answered-failed x h =
     rw (ne_eqb x 0 (λ q. omega (arith, q, h)), ne_eqb x 1 (λ q. omega (arith, q, h)), ne_eqb x 2 (λ q. omega (arith, q, h)), ne_eqb x 3 (λ q. omega (arith, q, h)))
@@ -61,12 +62,12 @@ pub whole-presence : (b answers : List ℕ) → is_tree b ≡ true → presence 
 whole-presence b answers h = ap (λ (x : ℕ). presence (oracle_of answers) x (tree_at b 0)) (root b h).first
 
 -- 15
-pub eval-no-tree : (b answers : List ℕ) → is_tree b ≡ false → refuse NotATree ≡ eval_answer b answers
+pub eval-no-tree : (b answers : List ℕ) → is_tree b ≡ false → Err NotATree ≡ eval_answer b answers
 unfolding eval_answer then
 eval-no-tree b answers h = rw (no-tree b h)
 
 -- 16
-pub eval-unfit : (b answers : List ℕ) → is_tree b ≡ true → answers_fit (tree_at b 0) answers ≡ false → refuse WrongAnswers ≡ eval_answer b answers
+pub eval-unfit : (b answers : List ℕ) → is_tree b ≡ true → answers_fit (tree_at b 0) answers ≡ false → Err WrongAnswers ≡ eval_answer b answers
 unfolding eval_answer then
 eval-unfit b answers h k = rw ((root b h).is, k)
 

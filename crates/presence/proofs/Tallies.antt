@@ -1,9 +1,11 @@
 -- A tally decides what the rules decide. Assumes nothing.
+use Rattle.std.specs.Prelude.{Result, Ok, Err}
 use mathlib.Core.Path.{◌≡◌, refl, sym, ap, ◌∙◌}
-use mathlib.Core.List.{List, [], ◌∷◌}
+use mathlib.Core.List.{List, [], ◌∷◌, ◌++◌}
 use mathlib.Core.Bool.{Bool, true, false, ◌&&◌, ◌||◌, false≢true, or-true, or-false}
 use Prim.Native.Nat.{ℕ, ◌+◌}
-use Rattle.refusal.specs.Result.{Result, ok, refused, refuse, map_ok}
+use Rattle.refusal.specs.declared.Refusal.{Refusal}
+use Rattle.refusal.specs.Result.{map_ok}
 use Rattle.refusal.specs.declared.Refusal.TheVariants.{ChoiceOverNeutral}
 use Rattle.citation.specs.declared.Truth.{Truth}
 use Rattle.citation.specs.declared.Truth.TheVariants.{False, Unknown, True, Neutral}
@@ -57,6 +59,17 @@ holds_step t r True vs h = record {
 }
 holds_step t r Neutral vs h = record { no = h.no; unknown = h.unknown; yes = h.yes; second = h.second }
 
+-- the value that comes last
+pub tallied_last : (t : Tally) (vs : List Truth) (v : Truth) → added (tallied t vs) v ≡ tallied t (vs ++ (v ∷ []))
+unfolding tallied
+tallied_last t [] v = refl
+tallied_last t (u ∷ vs) v = tallied_last (added t u) vs v
+
+-- no value
+pub tallied_none : (t : Tally) → t ≡ tallied t []
+unfolding tallied
+tallied_none t = refl
+
 holds : (t : Tally) (vs : List Truth) → Holds t (tallied t vs) vs
 unfolding tallied any two_true
 holds t [] = record {
@@ -67,11 +80,13 @@ holds t [] = record {
 }
 holds t (v ∷ vs) = holds_step t (tallied (added t v) vs) v vs (holds (added t v) vs)
 
-and_ruled : (vs : List Truth) → and_rule vs ≡ anded (tallied no_tally vs)
+-- the truth of a Then or an And, by a tally
+pub and_ruled : (vs : List Truth) → and_rule vs ≡ anded (tallied no_tally vs)
 unfolding and_rule anded
 and_ruled vs = let h = holds no_tally vs in rw (h.no, h.unknown, h.yes)
 
-or_ruled : (vs : List Truth) → or_rule vs ≡ ored (tallied no_tally vs)
+-- the truth of an Or
+pub or_ruled : (vs : List Truth) → or_rule vs ≡ ored (tallied no_tally vs)
 unfolding or_rule ored
 or_ruled vs = let h = holds no_tally vs in rw (h.no, h.unknown, h.yes)
 
@@ -80,10 +95,10 @@ unfolding xor_rule xored
 xor_ruled vs = let h = holds no_tally vs in rw (h.no, h.unknown, h.yes, h.second)
 
 finished_by : (rule : List Truth → Truth) (k : ℕ) → ((vs : List Truth) → rule vs ≡ ruled k (tallied no_tally vs))
-    → (r : Result (List Truth)) → map_ok rule r ≡ finished k no_tally r
+    → (r : Result (List Truth) Refusal) → map_ok rule r ≡ finished k no_tally r
 unfolding finished map_ok
-finished_by rule k h (ok vs) = ap ok (h vs)
-finished_by rule k h (refused n) = refl
+finished_by rule k h (Ok vs) = ap Ok (h vs)
+finished_by rule k h (Err n) = refl
 
 then-ruled : (vs : List Truth) → and_rule vs ≡ ruled 1 (tallied no_tally vs)
 unfolding ruled
@@ -101,7 +116,7 @@ choice_xor : (vs : List Truth) → xor_rule vs ≡ ruled 4 (tallied no_tally vs)
 unfolding ruled
 choice_xor vs = xor_ruled vs
 
-module _ (oracle : ℕ → Result Truth) where
+module _ (oracle : ℕ → Result Truth Refusal) where
   -- a node that does not mix is finished from its operands' values
   pub node-begins : (n : ℕ) (e : Expr) → (node_kind e ≡ 0 → ⊥) → (choosing (node_kind e) && mixes (children e)) ≡ false
       → presence oracle n e ≡ finished (node_kind e) no_tally (values oracle (choosing (node_kind e)) n (children e))
@@ -113,7 +128,7 @@ module _ (oracle : ℕ → Result Truth) where
   node-begins n (join Xor es) k h = rw h (finished_by xor_rule 4 choice_xor (values oracle true n es))
 
   -- a choice that mixes is turned back
-  pub node-mixes : (n : ℕ) (e : Expr) → (choosing (node_kind e) && mixes (children e)) ≡ true → presence oracle n e ≡ refuse ChoiceOverNeutral
+  pub node-mixes : (n : ℕ) (e : Expr) → (choosing (node_kind e) && mixes (children e)) ≡ true → presence oracle n e ≡ Err ChoiceOverNeutral
   unfolding node_kind op_kind children
   node-mixes n (cite t) h = absurd (false≢true h)
   node-mixes n (Then es) h = absurd (false≢true h)
@@ -122,7 +137,7 @@ module _ (oracle : ℕ → Result Truth) where
   node-mixes n (join Xor es) h = xor_mixes oracle n es h
 
   -- no operand is left
-  pub node-ends : (k : ℕ) (t : Tally) (c : Bool) (n : ℕ) → finished k t (values oracle c n none) ≡ ok (ruled k t)
+  pub node-ends : (k : ℕ) (t : Tally) (c : Bool) (n : ℕ) → finished k t (values oracle c n none) ≡ Ok (ruled k t)
   unfolding finished values_with map_ok tallied
   node-ends k t c n = refl
 
@@ -133,17 +148,17 @@ module _ (oracle : ℕ → Result Truth) where
   node_drops k t false n e es h = absurd (false≢true h)
 
   -- an operand is turned back
-  pub node_refused : (k : ℕ) (t : Tally) (c : Bool) (n : ℕ) (e : Expr) (es : Exprs) (why : ℕ) → (c && dropped e) ≡ false → presence oracle n e ≡ refused why
-      → finished k t (values oracle c n (e ◂ es)) ≡ refused why
+  pub node_refused : (k : ℕ) (t : Tally) (c : Bool) (n : ℕ) (e : Expr) (es : Exprs) (why : Refusal) → (c && dropped e) ≡ false → presence oracle n e ≡ Err why
+      → finished k t (values oracle c n (e ◂ es)) ≡ Err why
   unfolding finished before map_ok
   node_refused k t c n e es why h p = rw (values_kept oracle c n e es h, p)
 
-  before-added : (k : ℕ) (t : Tally) (v : Truth) (r : Result (List Truth)) → finished k t (before (ok v) r) ≡ finished k (added t v) r
+  before-added : (k : ℕ) (t : Tally) (v : Truth) (r : Result (List Truth) Refusal) → finished k t (before (Ok v) r) ≡ finished k (added t v) r
   unfolding finished before map_ok tallied
-  before-added k t v (ok vs) = refl
-  before-added k t v (refused n) = refl
+  before-added k t v (Ok vs) = refl
+  before-added k t v (Err n) = refl
 
   -- an operand has a value
-  pub node_adds : (k : ℕ) (t : Tally) (c : Bool) (n : ℕ) (e : Expr) (es : Exprs) (v : Truth) → (c && dropped e) ≡ false → presence oracle n e ≡ ok v
+  pub node_adds : (k : ℕ) (t : Tally) (c : Bool) (n : ℕ) (e : Expr) (es : Exprs) (v : Truth) → (c && dropped e) ≡ false → presence oracle n e ≡ Ok v
       → finished k t (values oracle c n (e ◂ es)) ≡ finished k (added t v) (values oracle c (n + count e) es)
   node_adds k t c n e es v h p = rw (values_kept oracle c n e es h, p) (before-added k t v (values oracle c (n + count e) es))

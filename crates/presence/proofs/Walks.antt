@@ -1,4 +1,5 @@
 -- The loops over a node's operands: marking, mixing, evaluating. Assumes nothing.
+use Rattle.std.specs.Prelude.{Ok, Err}
 use mathlib.Core.Path.{◌≡◌, refl, sym, ap, ◌∙◌, subst}
 use mathlib.Core.List.{List, [], ◌++◌, append_assoc, append-nil}
 use mathlib.Core.Bool.{Bool, true, false, ◌&&◌, ◌||◌, or-false, or-true, or_assoc, false≢true}
@@ -8,7 +9,7 @@ use lib.Dec.{eqb}
 use lib.ListN.{length, get_or, set, length-set}
 use lib.Seq.{get_or-set_same, get_or-set_other}
 use borrow.Author.Tests.{eqb-true, eqb-false, le-ltb}
-use Rattle.refusal.specs.Result.{ok, refused, refuse}
+use Rattle.refusal.specs.declared.Refusal.{Refusal}
 use Rattle.refusal.specs.declared.Refusal.TheVariants.{ChoiceOverNeutral}
 use Rattle.citation.specs.declared.Truth.{Truth}
 use Rattle.citation.specs.Kinds.{kind_of}
@@ -19,7 +20,9 @@ use Rattle.tree.specs.Walk.{node_kind, number_at, first_at, text_at}
 use Rattle.tree.proofs.Spots.{spot}
 use Rattle.tree.proofs.Walks.{Walk, leaf, children-at, first_below, walk_begins, walk_next}
 use Rattle.semantics.specs.Presence.{some_gate_with, some_free_with, presence_with, dropped, some_gate, some_free, mixes, presence, values, oracle_of}
-use Rattle.presence.specs.Marks.{mark_of_kind, mark_of, larger, choosing, choice_among, Marked, Ready}
+use Rattle.presence.specs.declared.Mark.{Mark}
+use Rattle.presence.specs.declared.Mark.TheVariants.{Dropped}
+use Rattle.presence.specs.Marks.{mark_of_kind, mark_of, larger, is_dropped, is_kept, is_gating, choosing, choice_among, Marked, Ready}
 use Rattle.presence.specs.declared.Tally.{Tally}
 use Rattle.presence.specs.Tallies.{no_tally, added, ruled, finished}
 use Rattle.presence.proofs.Marks.{mark_append, mark_none, mark_one, mark_drop, mark_gate, mark_free}
@@ -54,7 +57,7 @@ module _ (b : List ℕ) (tree : is_tree b ≡ true) where
   mark_leaf row l k n e = let f = leaf b tree row l k in rw (f.is, e) (sym (mark_one (text_at b (number_at b row))))
 
 -- marking: the mark of the citations that are done, and the operands that are left
-pub record Marking (b : List ℕ) (row left child mark : ℕ) : Type 0 where
+pub record Marking (b : List ℕ) (row left child : ℕ) (mark : Mark) : Type 0 where
   pub done : List (List ℕ)
   pub whole : citations (tree_at b row) ≡ done ++ citations_of (firsts left (forest_at b child))
   pub says : mark ≡ mark_of done
@@ -63,8 +66,8 @@ pub record Marking (b : List ℕ) (row left child mark : ℕ) : Type 0 where
 
 module _ (b : List ℕ) (tree : is_tree b ≡ true) where
   -- before the first operand
-  pub marking_begins : (row n : ℕ) → row < nodes b → (node_kind (tree_at b row) ≡ 0 → ⊥) → n ≡ number_at b row → Marking b row n (row + 1) 0
-  marking_begins row n l k e = subst (λ (x : ℕ). Marking b row x (row + 1) 0) (sym e) record {
+  pub marking_begins : (row n : ℕ) → row < nodes b → (node_kind (tree_at b row) ≡ 0 → ⊥) → n ≡ number_at b row → Marking b row n (row + 1) Dropped
+  marking_begins row n l k e = subst (λ (x : ℕ). Marking b row x (row + 1) Dropped) (sym e) record {
     done = [];
     whole = cites-inner (tree_at b row) k ∙ ap citations_of (children-at b tree row l k).0;
     says = sym mark_none;
@@ -73,52 +76,52 @@ module _ (b : List ℕ) (tree : is_tree b ≡ true) where
   }
 
   -- one operand more
-  pub marking_turns : (marks : List ℕ) (row left child mark : ℕ) → Marked b (row + 1) marks → Marking b row left child mark → 0 < left
-      → (m z : ℕ) → m ≡ larger mark (get_or marks child 0) → z ≡ span (tree_at b child) → Marking b row (left - 1) (child + z) m
+  pub marking_turns : (marks : List Mark) (row left child : ℕ) (mark : Mark) → Marked b (row + 1) marks → Marking b row left child mark → 0 < left
+      → (m : Mark) (z : ℕ) → m ≡ larger mark (get_or marks child Dropped) → z ≡ span (tree_at b child) → Marking b row (left - 1) (child + z) m
   unfolding citations_of
   marking_turns marks row left child mark k s h m z em ez =
       let n = walk_next b tree row left child s.walk h in
-      let here : get_or marks child 0 ≡ mark_of (citations (tree_at b child)) = k.says child (omega (arith, s.after)) n.inside in
+      let here : get_or marks child Dropped ≡ mark_of (citations (tree_at b child)) = k.says child (omega (arith, s.after)) n.inside in
       subst (λ (x : ℕ). Marking b row (left - 1) (child + x) m) (sym ez) record {
         done = s.done ++ citations (tree_at b child);
         whole = s.whole ∙ ap (λ x. s.done ++ citations_of x) n.splits ∙ sym (append_assoc s.done (citations (tree_at b child)) _);
-        says = em ∙ ap (λ (x : ℕ). larger x (get_or marks child 0)) s.says ∙ ap (larger (mark_of s.done)) here ∙ mark_append s.done (citations (tree_at b child));
+        says = em ∙ ap (λ x. larger x (get_or marks child Dropped)) s.says ∙ ap (larger (mark_of s.done)) here ∙ mark_append s.done (citations (tree_at b child));
         walk = n.walk;
         after = omega (arith, s.after);
       }
 
 -- after the last operand
-pub marking_ends : (b : List ℕ) (row left child mark : ℕ) → Marking b row left child mark → left ≤ 0 → mark ≡ mark_of (citations (tree_at b row))
+pub marking_ends : (b : List ℕ) (row left child : ℕ) (mark : Mark) → Marking b row left child mark → left ≤ 0 → mark ≡ mark_of (citations (tree_at b row))
 unfolding citations_of
 marking_ends b row left child mark s h =
     s.says ∙ ap mark_of (sym (s.whole ∙ ap (λ x. s.done ++ citations_of x) (firsts_end left (forest_at b child) h) ∙ append-nil s.done))
 
 -- no row is marked yet
-pub marked_none : (b marks : List ℕ) (n : ℕ) → nodes b ≤ length marks → n ≡ nodes b → Marked b n marks
+pub marked_none : (b : List ℕ) (marks : List Mark) (n : ℕ) → nodes b ≤ length marks → n ≡ nodes b → Marked b n marks
 marked_none b marks n h e = record { room = h; says = λ i p q. absurd (omega arith) }
 
 -- the marked rows, by another number for the first
-pub marked_on : (b marks : List ℕ) (from to : ℕ) → Marked b from marks → from ≤ to → Marked b to marks
+pub marked_on : (b : List ℕ) (marks : List Mark) (from to : ℕ) → Marked b from marks → from ≤ to → Marked b to marks
 marked_on b marks from to k h = record { room = k.room; says = λ i p q. k.says i (omega (arith, p, h)) q }
 
 -- every row is marked
-pub marked_all : (b marks : List ℕ) (from : ℕ) → Marked b from marks → from ≤ 0 → Marked b 0 marks
+pub marked_all : (b : List ℕ) (marks : List Mark) (from : ℕ) → Marked b from marks → from ≤ 0 → Marked b 0 marks
 marked_all b marks from k h = marked_on b marks from 0 k h
 
 -- one row more
-pub marked_more : (b marks : List ℕ) (row m : ℕ) → Marked b (row + 1) marks → row < nodes b → m ≡ mark_of (citations (tree_at b row)) → Marked b row (set marks row m)
+pub marked_more : (b : List ℕ) (marks : List Mark) (row : ℕ) (m : Mark) → Marked b (row + 1) marks → row < nodes b → m ≡ mark_of (citations (tree_at b row)) → Marked b row (set marks row m)
 marked_more b marks row m k l e = record {
   room = rw (length-set marks row m) k.room;
   says = λ i p q. by i p q (eqb i row) refl;
 }
   where
-    by : (i : ℕ) → row ≤ i → i < nodes b → (t : Bool) → eqb i row ≡ t → get_or (set marks row m) i 0 ≡ mark_of (citations (tree_at b i))
+    by : (i : ℕ) → row ≤ i → i < nodes b → (t : Bool) → eqb i row ≡ t → get_or (set marks row m) i Dropped ≡ mark_of (citations (tree_at b i))
     by i p q true t =
         let same : row ≡ i = sym (eqb-true i row t) in
-        subst (λ (x : ℕ). get_or (set marks row m) x 0 ≡ mark_of (citations (tree_at b x))) same (get_or-set_same marks row m 0 (omega (arith, k.room)) ∙ e)
+        subst (λ (x : ℕ). get_or (set marks row m) x Dropped ≡ mark_of (citations (tree_at b x))) same (get_or-set_same marks row m Dropped (omega (arith, k.room)) ∙ e)
     by i p q false t =
         let no : (i ≡ row → ⊥) = eqb-false i row t in
-        get_or-set_other marks row i m 0 no ∙ k.says i (omega (arith, no)) q
+        get_or-set_other marks row i m Dropped no ∙ k.says i (omega (arith, no)) q
 
 -- no row
 pub among_none : (b : List ℕ) (n : ℕ) → n ≤ 0 → choice_among b n ≡ false
@@ -150,11 +153,11 @@ among_met b row (suc n) k l ek h = among_more b n ∙ by (eqb row n) refl (λ p.
         ap (λ x. choosing (node_kind (tree_at b n)) || x) (f (omega (arith, no, l))) ∙ or-true (choosing (node_kind (tree_at b n)))
 
 -- without a choice no row need be marked
-pub ready_none : (b marks : List ℕ) → nodes b ≤ length marks → choice_among b (nodes b) ≡ false → Ready b marks
+pub ready_none : (b : List ℕ) (marks : List Mark) → nodes b ≤ length marks → choice_among b (nodes b) ≡ false → Ready b marks
 ready_none b marks l h = record { room = l; marked = λ q. absurd (false≢true (sym h ∙ q)) }
 
 -- at a choice's row the rows are marked
-pub ready_marked : (b marks : List ℕ) (row kind : ℕ) → Ready b marks → row < nodes b → kind ≡ node_kind (tree_at b row) → choosing kind ≡ true → Marked b 0 marks
+pub ready_marked : (b : List ℕ) (marks : List Mark) (row kind : ℕ) → Ready b marks → row < nodes b → kind ≡ node_kind (tree_at b row) → choosing kind ≡ true → Marked b 0 marks
 ready_marked b marks row kind r l e h = r.marked (among_met b row (nodes b) kind l e h)
 
 -- mixing: what was found among the operands that are done, and the operands that are left
@@ -164,11 +167,11 @@ pub record Mixing (b : List ℕ) (row left child : ℕ) (gate free : Bool) : Typ
   pub walk : Walk b row left child
   pub after : row < child
 
-gate_more : (e : Expr) (es : Exprs) (m : ℕ) → m ≡ mark_of (citations e) → some_gate (e ◂ es) ≡ eqb m 2 || some_gate es
+gate_more : (e : Expr) (es : Exprs) (m : Mark) → m ≡ mark_of (citations e) → some_gate (e ◂ es) ≡ is_gating m || some_gate es
 unfolding some_gate_with
 gate_more e es m h = rw (h, mark_gate (citations e))
 
-free_more : (e : Expr) (es : Exprs) (m : ℕ) → m ≡ mark_of (citations e) → some_free (e ◂ es) ≡ eqb m 1 || some_free es
+free_more : (e : Expr) (es : Exprs) (m : Mark) → m ≡ mark_of (citations e) → some_free (e ◂ es) ≡ is_kept m || some_free es
 unfolding some_free_with
 free_more e es m h = rw (h, mark_free (citations e))
 
@@ -183,17 +186,17 @@ module _ (b : List ℕ) (tree : is_tree b ≡ true) where
   }
 
   -- one operand more
-  pub mixing_turns : (marks : List ℕ) (row left child : ℕ) (gate free : Bool) → Marked b 0 marks → Mixing b row left child gate free → 0 < left
-      → (g f : Bool) (z : ℕ) → g ≡ gate || eqb (get_or marks child 0) 2 → f ≡ free || eqb (get_or marks child 0) 1 → z ≡ span (tree_at b child)
+  pub mixing_turns : (marks : List Mark) (row left child : ℕ) (gate free : Bool) → Marked b 0 marks → Mixing b row left child gate free → 0 < left
+      → (g f : Bool) (z : ℕ) → g ≡ gate || is_gating (get_or marks child Dropped) → f ≡ free || is_kept (get_or marks child Dropped) → z ≡ span (tree_at b child)
       → Mixing b row (left - 1) (child + z) g f
   mixing_turns marks row left child gate free k s h g f z eg ef ez =
       let n = walk_next b tree row left child s.walk h in
-      let m = get_or marks child 0 in
+      let m = get_or marks child Dropped in
       let rest = firsts (left - 1) (forest_at b (child + span (tree_at b child))) in
       let here : m ≡ mark_of (citations (tree_at b child)) = k.says child (omega arith) n.inside in
       subst (λ (x : ℕ). Mixing b row (left - 1) (child + x) g f) (sym ez) record {
-        gating = s.gating ∙ ap (λ x. gate || some_gate x) n.splits ∙ ap (λ x. gate || x) (gate_more (tree_at b child) rest m here) ∙ sym (or_assoc gate (eqb m 2) (some_gate rest)) ∙ ap (λ x. x || some_gate rest) (sym eg);
-        freeing = s.freeing ∙ ap (λ x. free || some_free x) n.splits ∙ ap (λ x. free || x) (free_more (tree_at b child) rest m here) ∙ sym (or_assoc free (eqb m 1) (some_free rest)) ∙ ap (λ x. x || some_free rest) (sym ef);
+        gating = s.gating ∙ ap (λ x. gate || some_gate x) n.splits ∙ ap (λ x. gate || x) (gate_more (tree_at b child) rest m here) ∙ sym (or_assoc gate (is_gating m) (some_gate rest)) ∙ ap (λ x. x || some_gate rest) (sym eg);
+        freeing = s.freeing ∙ ap (λ x. free || some_free x) n.splits ∙ ap (λ x. free || x) (free_more (tree_at b child) rest m here) ∙ sym (or_assoc free (is_kept m) (some_free rest)) ∙ ap (λ x. x || some_free rest) (sym ef);
         walk = n.walk;
         after = omega (arith, s.after);
       }
@@ -265,35 +268,35 @@ module _ (b answers : List ℕ) (tree : is_tree b ≡ true) where
         }
 
     -- what the mark says of the operand
-    by_mark : (marks : List ℕ) → (choosing kind ≡ true → Marked b 0 marks) → (x : Bool) → (choosing kind && eqb (get_or marks child 0) 0) ≡ x → (choosing kind && dropped (tree_at b child)) ≡ x
+    by_mark : (marks : List Mark) → (choosing kind ≡ true → Marked b 0 marks) → (x : Bool) → (choosing kind && is_dropped (get_or marks child Dropped)) ≡ x → (choosing kind && dropped (tree_at b child)) ≡ x
     by_mark marks k x e = by (choosing kind) refl
       where
         by : (c : Bool) → choosing kind ≡ c → (choosing kind && dropped (tree_at b child)) ≡ x
         by true q =
-            ap (λ y. choosing kind && y) (sym (ap (λ (y : ℕ). eqb y 0) ((k q).says child (omega arith) (walk_next b tree row left child s.walk h).inside) ∙ mark_drop (citations (tree_at b child)))) ∙ e
-        by false q = ap (λ y. y && dropped (tree_at b child)) q ∙ sym (ap (λ y. y && eqb (get_or marks child 0) 0) q) ∙ e
+            ap (λ y. choosing kind && y) (sym (ap is_dropped ((k q).says child (omega arith) (walk_next b tree row left child s.walk h).inside) ∙ mark_drop (citations (tree_at b child)))) ∙ e
+        by false q = ap (λ y. y && dropped (tree_at b child)) q ∙ sym (ap (λ y. y && is_dropped (get_or marks child Dropped)) q) ∙ e
 
     -- the operand is passed over
-    pub evaluating_drops : (marks : List ℕ) (z : ℕ) → (choosing kind ≡ true → Marked b 0 marks) → (choosing kind && eqb (get_or marks child 0) 0) ≡ true → z ≡ span (tree_at b child)
+    pub evaluating_drops : (marks : List Mark) (z : ℕ) → (choosing kind ≡ true → Marked b 0 marks) → (choosing kind && is_dropped (get_or marks child Dropped)) ≡ true → z ≡ span (tree_at b child)
         → Evaluating b answers kind row (left - 1) (child + z) t
     evaluating_drops marks z k e ez = onward t z ez (cut ∙ node_drops (oracle_of answers) kind t (choosing kind) (first_at b child) (tree_at b child) _ (by_mark marks k true e))
 
-    module _ (marks : List ℕ) (k : choosing kind ≡ true → Marked b 0 marks) (e : (choosing kind && eqb (get_or marks child 0) 0) ≡ false) where
+    module _ (marks : List Mark) (k : choosing kind ≡ true → Marked b 0 marks) (e : (choosing kind && is_dropped (get_or marks child Dropped)) ≡ false) where
       -- the operand has a value
-      pub evaluating_adds : (z : ℕ) (v : Truth) (u : Tally) → z ≡ span (tree_at b child) → presence (oracle_of answers) (first_at b child) (tree_at b child) ≡ ok v → u ≡ added t v
+      pub evaluating_adds : (z : ℕ) (v : Truth) (u : Tally) → z ≡ span (tree_at b child) → presence (oracle_of answers) (first_at b child) (tree_at b child) ≡ Ok v → u ≡ added t v
           → Evaluating b answers kind row (left - 1) (child + z) u
       evaluating_adds z v u ez p eu =
           subst (λ x. Evaluating b answers kind row (left - 1) (child + z) x) (sym eu)
           (onward (added t v) z ez (cut ∙ node_adds (oracle_of answers) kind t (choosing kind) (first_at b child) (tree_at b child) _ v (by_mark marks k false e) p))
 
       -- the operand is turned back
-      pub evaluating_stops : (why : ℕ) → presence (oracle_of answers) (first_at b child) (tree_at b child) ≡ refused why
-          → refused why ≡ presence (oracle_of answers) (first_at b row) (tree_at b row)
+      pub evaluating_stops : (why : Refusal) → presence (oracle_of answers) (first_at b child) (tree_at b child) ≡ Err why
+          → Err why ≡ presence (oracle_of answers) (first_at b row) (tree_at b row)
       evaluating_stops why p = sym (cut ∙ node_refused (oracle_of answers) kind t (choosing kind) (first_at b child) (tree_at b child) _ why (by_mark marks k false e) p)
 
 -- after the last operand
 pub evaluating_ends : (b answers : List ℕ) (kind row left child : ℕ) (t : Tally) → Evaluating b answers kind row left child t → left ≤ 0
-    → ok (ruled kind t) ≡ presence (oracle_of answers) (first_at b row) (tree_at b row)
+    → Ok (ruled kind t) ≡ presence (oracle_of answers) (first_at b row) (tree_at b row)
 evaluating_ends b answers kind row left child t s h =
     sym (s.whole
     ∙ ap (λ x. finished kind t (values (oracle_of answers) (choosing kind) (first_at b child) x)) (firsts_end left (forest_at b child) h)
@@ -307,6 +310,6 @@ leaf_answer b answers tree row l k n e = let f = leaf b tree row l k in rw (f.is
 
 -- a choice that mixes, before any operand is evaluated
 pub mixed_answer : (b answers : List ℕ) (row kind : ℕ) → kind ≡ node_kind (tree_at b row) → (choosing kind && mixes (children (tree_at b row))) ≡ true
-    → refuse ChoiceOverNeutral ≡ presence (oracle_of answers) (first_at b row) (tree_at b row)
+    → Err ChoiceOverNeutral ≡ presence (oracle_of answers) (first_at b row) (tree_at b row)
 mixed_answer b answers row kind e h =
     sym (node-mixes (oracle_of answers) (first_at b row) (tree_at b row) (ap (λ (x : ℕ). choosing x && mixes (children (tree_at b row))) (sym e) ∙ h))

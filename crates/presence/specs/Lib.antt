@@ -1,3 +1,2 @@
-pub mod Said
 pub mod Marks
 pub mod Tallies

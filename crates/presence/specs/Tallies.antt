@@ -1,6 +1,7 @@
 -- Which values were met, and what they make of a node. Assumes nothing.
-use Rattle.std.specs.Prelude.{List, [], ◌∷◌, true, false, cond, ◌||◌, ℕ, eqb}
-use Rattle.refusal.specs.Result.{Result, map_ok}
+use Rattle.std.specs.Prelude.{List, [], ◌∷◌, true, false, cond, ◌||◌, ℕ, eqb, Result}
+use Rattle.refusal.specs.declared.Refusal.{Refusal}
+use Rattle.refusal.specs.Result.{map_ok}
 use Rattle.citation.specs.declared.Truth.{Truth}
 use Rattle.citation.specs.declared.Truth.TheVariants.{False, Unknown, True, Neutral}
 use Rattle.presence.specs.declared.Tally.{Tally}
@@ -38,5 +39,5 @@ tallied t [] = t
 tallied t (v ∷ vs) = tallied (added t v) vs
 
 -- the truth of a node of this kind whose operands have these values besides those of a tally, or their refusal
-unfoldable pub finished : ℕ → Tally → Result (List Truth) → Result Truth
+unfoldable pub finished : ℕ → Tally → Result (List Truth) Refusal → Result Truth Refusal
 finished k t r = map_ok (λ vs. ruled k (tallied t vs)) r

@@ -2,11 +2,10 @@
 use mathlib.Core.Path.{◌≡◌, refl, sym, ap, ◌∙◌}
 use mathlib.Core.List.{List, [], ◌∷◌, ◌++◌, append_assoc, append-nil}
 use mathlib.Core.Bool.{Bool, true, false}
-use Prim.Native.Nat.{ℕ, zero, suc, ◌+◌, ◌-◌, ◌≤◌, ◌<◌}
+use Prim.Native.Nat.{ℕ, ◌+◌, ◌-◌, ◌≤◌, ◌<◌}
 use native.Mathlib.Omega.{arith}
 use lib.Dec.{eqb}
 use lib.ListN.{length, length-append}
-use store.Seg.{eqb_same}
 use borrow.Author.Tests.{ne_eqb}
 use Rattle.fields.specs.Appended.{Appended}
 use Rattle.fields.proofs.Appends as appends
@@ -71,52 +70,51 @@ word b h row k number l ek en z =
     let is : printed (tree_at b row) ≡ in_bytes.word (text_at b number) = ap printed f.is ∙ print_cite _ ∙ ap (λ (x : ℕ). in_bytes.word (text_at b x)) (sym en) in
     record { inside = rw en f.number; is = is; room = ap length is ∙ word_room (text_at b number) }
 
--- the loop: what is written, and the children that are left
-pub record State (b : List ℕ) (row at : ℕ) (base new : List ℕ) (k m left child w : ℕ) : Type 0 where
+-- the loop after i of m children: what is written, and the children that are left
+pub record State (b : List ℕ) (row at : ℕ) (base new : List ℕ) (k m i child w : ℕ) : Type 0 where
   pub text : List ℕ
-  pub whole : printed (tree_at b row) ≡ text ++ parts (eqb left m) k (firsts left (forest_at b child))
-  pub walk : Walk b row left child
+  pub whole : printed (tree_at b row) ≡ text ++ parts (eqb i 0) k (firsts (m - i) (forest_at b child))
+  pub walk : Walk b row (m - i) child
   pub stands : Appended text at base new w
-  pub fewer : left ≤ m
   pub long : length new ≡ length base
   pub inner : 1 ≤ k
   pub kinds : k ≤ 4
 
 module _ (b : List ℕ) (tree : is_tree b ≡ true) where
   -- before the first child
-  pub begins : (row at : ℕ) (base : List ℕ) (k m : ℕ) → row < nodes b → k ≡ node_kind (tree_at b row) → m ≡ number_at b row → (k ≡ 0 → ⊥) → State b row at base base k m m (row + 1) at
+  pub begins : (row at : ℕ) (base : List ℕ) (k m : ℕ) → row < nodes b → k ≡ node_kind (tree_at b row) → m ≡ number_at b row → (k ≡ 0 → ⊥) → State b row at base base k m 0 (row + 1) at
   begins row at base k m l ek em k0 =
       let no : node_kind (tree_at b row) ≡ 0 → ⊥ = λ q. k0 (ek ∙ q) in
       let kids : children (tree_at b row) ≡ firsts m (forest_at b (row + 1)) =
       (children-at b tree row l no).0 ∙ ap (λ (x : ℕ). firsts x (forest_at b (row + 1))) (sym em) in
+      let all : m - 0 ≡ m = omega arith in
       record {
         text = [];
-        whole = rw (eqb_same m, ← kids, ek) (print_inner (tree_at b row) no);
-        walk = rw em (walk_begins b tree row l no);
+        whole = rw (all, ← kids, ek) (print_inner (tree_at b row) no);
+        walk = rw (all, em) (walk_begins b tree row l no);
         stands = appends.nothing at base;
-        fewer = omega arith;
         long = refl;
         inner = omega arith;
         kinds = omega (arith, kind_small (tree_at b row), ek);
       }
 
   -- the child that is next, and what its part of the print is
-  pub record Turn (row k m left child : ℕ) (text : List ℕ) : Type 0 where
-    pub next : Next b row left child
+  pub record Turn (row k m i child : ℕ) (text : List ℕ) : Type 0 where
+    pub next : Next b row (m - i) child
     pub rest : List ℕ
-    pub splits : printed (tree_at b row) ≡ text ++ (separator_after (eqb left m) k ++ (left_of (node_kind (tree_at b child)) ++ (printed (tree_at b child) ++ (right_of (node_kind (tree_at b child)) ++ rest))))
-    pub is : rest ≡ parts false k (firsts (left - 1) (forest_at b (child + span (tree_at b child))))
+    pub splits : printed (tree_at b row) ≡ text ++ (separator_after (eqb i 0) k ++ (left_of (node_kind (tree_at b child)) ++ (printed (tree_at b child) ++ (right_of (node_kind (tree_at b child)) ++ rest))))
+    pub is : rest ≡ parts false k (firsts (m - i - 1) (forest_at b (child + span (tree_at b child))))
 
   -- the child that is next
-  pub turn : (row at : ℕ) (base new : List ℕ) (k m left child w : ℕ) (s : State b row at base new k m left child w) → 0 < left → Turn row k m left child s.text
-  turn row at base new k m left child w s h =
-      let n = walk_next b tree row left child s.walk h in
-      let rest = firsts (left - 1) (forest_at b (child + span (tree_at b child))) in
+  pub turn : (row at : ℕ) (base new : List ℕ) (k m i child w : ℕ) (s : State b row at base new k m i child w) → i < m → Turn row k m i child s.text
+  turn row at base new k m i child w s h =
+      let n = walk_next b tree row (m - i) child s.walk (omega arith) in
+      let rest = firsts (m - i - 1) (forest_at b (child + span (tree_at b child))) in
       record {
         next = n;
         rest = parts false k rest;
         splits =
-            s.whole ∙ ap (λ x. s.text ++ parts (eqb left m) k x) n.splits ∙ ap (λ x. s.text ++ x) (parts_more (eqb left m) k (tree_at b child) rest);
+            s.whole ∙ ap (λ x. s.text ++ parts (eqb i 0) k x) n.splits ∙ ap (λ x. s.text ++ x) (parts_more (eqb i 0) k (tree_at b child) rest);
         is = refl;
       }
 
@@ -124,39 +122,39 @@ five : (a b c d e f : List ℕ) → length (a ++ (b ++ (c ++ (d ++ (e ++ f))))) 
 five a b c d e f =
     rw (length-append a (b ++ (c ++ (d ++ (e ++ f)))), length-append b (c ++ (d ++ (e ++ f))), length-append c (d ++ (e ++ f)), length-append d (e ++ f), length-append e f)
 
-module _ (b : List ℕ) (tree : is_tree b ≡ true) (row at : ℕ) (base new : List ℕ) (k m left child w : ℕ) (s : State b row at base new k m left child w) (h : 0 < left) where
+module _ (b : List ℕ) (tree : is_tree b ≡ true) (row at : ℕ) (base new : List ℕ) (k m i child w : ℕ) (s : State b row at base new k m i child w) (h : i < m) where
   -- how long the parts are
   pub lengths : (j : ℕ) → j ≡ node_kind (tree_at b child)
-      → length s.text + (length (separator_after (eqb left m) k) + (length (left_of j) + (length (printed (tree_at b child)) + length (right_of j)))) ≤ length (printed (tree_at b row))
+      → length s.text + (length (separator_after (eqb i 0) k) + (length (left_of j) + (length (printed (tree_at b child)) + length (right_of j)))) ≤ length (printed (tree_at b row))
   lengths j ej =
-      let n = turn b tree row at base new k m left child w s h in
-      let all = ap length n.splits ∙ five s.text (separator_after (eqb left m) k) (left_of (node_kind (tree_at b child))) (printed (tree_at b child)) (right_of (node_kind (tree_at b child))) n.rest in
+      let n = turn b tree row at base new k m i child w s h in
+      let all = ap length n.splits ∙ five s.text (separator_after (eqb i 0) k) (left_of (node_kind (tree_at b child))) (printed (tree_at b child)) (right_of (node_kind (tree_at b child))) n.rest in
       rw ej (omega (arith, all))
 
   -- after a child
   pub again : (j size : ℕ) → j ≡ node_kind (tree_at b child) → size ≡ span (tree_at b child) → (l₁ l₂ l₃ l₄ : List ℕ) (w₁ w₂ w₃ w₄ : ℕ)
-      → Appended (separator_after (eqb left m) k) w new l₁ w₁ → Appended (left_of j) w₁ l₁ l₂ w₂ → Appended (printed (tree_at b child)) w₂ l₂ l₃ w₃ → Appended (right_of j) w₃ l₃ l₄ w₄
-      → length l₄ ≡ length new → State b row at base l₄ k m (left - 1) (child + size) w₄
+      → Appended (separator_after (eqb i 0) k) w new l₁ w₁ → Appended (left_of j) w₁ l₁ l₂ w₂ → Appended (printed (tree_at b child)) w₂ l₂ l₃ w₃ → Appended (right_of j) w₃ l₃ l₄ w₄
+      → length l₄ ≡ length new → State b row at base l₄ k m (i + 1) (child + size) w₄
   again j size ej es l₁ l₂ l₃ l₄ w₁ w₂ w₃ w₄ p₁ p₂ p₃ p₄ l =
-      let n = turn b tree row at base new k m left child w s h in
-      let i = node_kind (tree_at b child) in
-      let text = separator_after (eqb left m) k ++ (left_of i ++ (printed (tree_at b child) ++ right_of i)) in
+      let n = turn b tree row at base new k m i child w s h in
+      let of = node_kind (tree_at b child) in
+      let text = separator_after (eqb i 0) k ++ (left_of of ++ (printed (tree_at b child) ++ right_of of)) in
       let put : Appended text w new l₄ w₄ = appends.both p₁ (appends.both (appends.same (ap left_of ej) p₂) (appends.both p₃ (appends.same (ap right_of ej) p₄))) in
-      let other : eqb (left - 1) m ≡ false = ne_eqb (left - 1) m (λ q. omega (arith, s.fewer)) in
+      let other : eqb (i + 1) 0 ≡ false = ne_eqb (i + 1) 0 (λ q. omega (arith, q)) in
+      let fewer : m - (i + 1) ≡ m - i - 1 = omega arith in
       rw es record {
         text = s.text ++ text;
-        whole = rw (other, ← n.is) (n.splits ∙ simp append_assoc);
-        walk = n.next.walk;
+        whole = rw (other, fewer, ← n.is) (n.splits ∙ simp append_assoc);
+        walk = rw fewer n.next.walk;
         stands = appends.both s.stands put;
-        fewer = omega (arith, s.fewer);
         long = l ∙ s.long;
         inner = s.inner;
         kinds = s.kinds;
       }
 
 -- after the last child
-pub finish : (b : List ℕ) (row at : ℕ) (base new : List ℕ) (k m left child w : ℕ) → State b row at base new k m left child w → left ≤ 0 → Appended (printed (tree_at b row)) at base new w
+pub finish : (b : List ℕ) (row at : ℕ) (base new : List ℕ) (k m i child w : ℕ) → State b row at base new k m i child w → m ≤ i → Appended (printed (tree_at b row)) at base new w
 unfolding firsts
-finish b row at base new k m zero child w s h =
-    appends.same (sym (s.whole ∙ ap (λ x. s.text ++ x) (parts_none (eqb 0 m) k) ∙ append-nil s.text)) s.stands
-finish b row at base new k m (suc left) child w s h = absurd (omega arith)
+finish b row at base new k m i child w s h =
+    let none_left : m - i ≡ 0 = omega arith in
+    appends.same (sym (s.whole ∙ rw none_left (ap (λ x. s.text ++ x) (parts_none (eqb i 0) k) ∙ append-nil s.text))) s.stands

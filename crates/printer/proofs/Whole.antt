@@ -1,11 +1,12 @@
 -- The answer of `display` and the lent bytes. Assumes nothing.
+use Rattle.std.specs.Prelude.{Ok, Err}
 use mathlib.Core.Path.{◌≡◌, sym, ap, ◌∙◌}
 use mathlib.Core.List.{List, ◌++◌}
 use mathlib.Core.Bool.{true, false}
 use Prim.Native.Nat.{ℕ, ◌≤◌, ◌<◌, ◌+◌}
 use native.Mathlib.Omega.{arith}
 use lib.ListN.{length, drop}
-use Rattle.refusal.specs.Result.{ok, refuse, map_ok, then}
+use Rattle.refusal.specs.Result.{map_ok, then}
 use Rattle.refusal.specs.declared.Refusal.TheVariants.{NotATree, NoRoom}
 use Rattle.grammar.specs.Print.{printed}
 use Rattle.grammar.specs.Expr.{concat}
@@ -30,17 +31,17 @@ within b h =
     let x = texts-stand b (cites b) (cites_at b) (texts_at b) (tests b h).cited in
     omega (arith, print_within (tree_at b 0) r.fits.wide, bytes-length (tree_at b 0), r.size, r.counts, ap (λ (ts : List (List ℕ)). length (concat ts)) r.cited, x.0)
 
-outcome : (b : List ℕ) → is_tree b ≡ true → display_answer b ≡ ok (with_length (printed (tree_at b 0)))
+outcome : (b : List ℕ) → is_tree b ≡ true → display_answer b ≡ Ok (with_length (printed (tree_at b 0)))
 unfolding display_answer map_ok
 outcome b h = rw (root b h).is
 
 -- not a tree
-pub refused_15 : (b old : List ℕ) → is_tree b ≡ false → (refuse NotATree ≡ answer_of (display_answer b) (length old)) × (old ≡ written_of (display_answer b) old)
+pub refused_15 : (b old : List ℕ) → is_tree b ≡ false → (Err NotATree ≡ answer_of (display_answer b) (length old)) × (old ≡ written_of (display_answer b) old)
 unfolding display_answer answer_of written_of map_ok then
 refused_15 b old h = (rw (no-tree b h), rw (no-tree b h))
 
 -- a buffer that is too short
-pub refused_14 : (b old : List ℕ) (n : ℕ) → is_tree b ≡ true → n ≡ 0 + length (printed (tree_at b 0)) → length old < n → (refuse NoRoom ≡ answer_of (display_answer b) (length old)) × (old ≡ written_of (display_answer b) old)
+pub refused_14 : (b old : List ℕ) (n : ℕ) → is_tree b ≡ true → n ≡ 0 + length (printed (tree_at b 0)) → length old < n → (Err NoRoom ≡ answer_of (display_answer b) (length old)) × (old ≡ written_of (display_answer b) old)
 refused_14 b old n h e l =
     let w = with_length (printed (tree_at b 0)) in
     let small : length old < length (printed (tree_at b 0)) = omega arith in
@@ -48,9 +49,9 @@ refused_14 b old n h e l =
 
 -- the print
 pub done : (b old new : List ℕ) (n : ℕ) → is_tree b ≡ true → n ≡ 0 + length (printed (tree_at b 0)) → n ≤ length old → new ≡ printed (tree_at b 0) ++ drop (length (printed (tree_at b 0))) old
-    → (ok n ≡ answer_of (display_answer b) (length old)) × (new ≡ written_of (display_answer b) old)
+    → (Ok n ≡ answer_of (display_answer b) (length old)) × (new ≡ written_of (display_answer b) old)
 done b old new n h e l q =
     let w = with_length (printed (tree_at b 0)) in
     let same : n ≡ length (printed (tree_at b 0)) = omega arith in
     let fits : length (printed (tree_at b 0)) ≤ length old = omega arith in
-    (rw (outcome b h) (ap ok same ∙ sym (answer_fits w (length old) fits)), rw (outcome b h) (q ∙ sym (written_fits w old fits)))
+    (rw (outcome b h) (ap Ok same ∙ sym (answer_fits w (length old) fits)), rw (outcome b h) (q ∙ sym (written_fits w old fits)))

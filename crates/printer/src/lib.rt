@@ -9,7 +9,6 @@ ghost use Rattle.grammar.specs.Bytes.{nodes, cites, is_tree, tree_at};
 ghost use Rattle.grammar.specs.Outcome.{answer_of, written_of, display_answer};
 ghost use Rattle.tree.specs.Walk.{text_at};
 ghost use Rattle.printer.specs.Parts.{separator, separator_after, left_of, right_of};
-ghost use Rattle.printer.specs.Said.{display_said};
 
 use fields::{put_byte, put_text};
 use refusal::Refusal;
@@ -17,13 +16,6 @@ use tree::{is_tree, kind_at, number_at, size_at, text_at};
 
 // The longest print, in bytes.
 pub const PRINT_LIMIT: usize = 4343;
-
-// The print's length, or why there is none.
-#[derive(Clone, Copy)]
-pub enum Displayed {
-    Done(usize),
-    Refused(Refusal),
-}
 
 // An operator's sign between two spaces, by its node's kind.
 fn put_sign(kind: usize, out: &mut [u8], at: usize) -> usize
@@ -96,48 +88,44 @@ fn print_row(tree: &[u8], row: usize, out: &mut [u8], at: usize) -> usize
     if kind == 0 {
         return put_cite(tree, number, out, at);
     }
-    let mut left = number;
     let mut child = row + 1;
     let mut w = at;
-    while 0 < left {
+    for i in 0..number {
         let inner = kind_at(tree, child);
-        let size = size_at(tree, child);
-        w = put_separator(kind, left == number, out, w);
+        w = put_separator(kind, i == 0, out, w);
         w = put_left(inner, out, w);
         w = print_row(tree, child, out, w);
         w = put_right(inner, out, w);
-        child += size;
-        left -= 1;
+        child += size_at(tree, child);
     }
     w
 }
 
 // Writes the print into a scratch first, since the buffer may be too short for it.
-fn display_apart(tree: &[u8], out: &mut [u8]) -> Displayed
+fn display_apart(tree: &[u8], out: &mut [u8]) -> Result<usize, Refusal>
     requires { is_tree tree.now ≡ true }
-    ensures result_value { display_said result ≡ answer_of (display_answer tree.now) (length out.old) }
+    ensures result_value { result ≡ answer_of (display_answer tree.now) (length out.old) }
     ensures out_after { out.new ≡ written_of (display_answer tree.now) out.old }
 {
     let mut scratch = [0u8; PRINT_LIMIT];
     let n = print_row(tree, 0, &mut scratch, 0);
     if out.len() < n {
-        return Displayed::Refused(Refusal::NoRoom);
+        return Err(Refusal::NoRoom);
     }
     put_text(&scratch[..n], out, 0);
-    Displayed::Done(n)
+    Ok(n)
 }
 
 // Writes the print of a tree; 15, then 14. A print is no longer than its tree, so a buffer as long as the tree holds it.
-pub fn display(tree: &[u8], out: &mut [u8]) -> Displayed
-    ensures result_value { display_said result ≡ answer_of (display_answer tree.now) (length out.old) }
+pub fn display(tree: &[u8], out: &mut [u8]) -> Result<usize, Refusal>
+    ensures result_value { result ≡ answer_of (display_answer tree.now) (length out.old) }
     ensures out_after { out.new ≡ written_of (display_answer tree.now) out.old }
 {
     if !is_tree(tree) {
-        return Displayed::Refused(Refusal::NotATree);
+        return Err(Refusal::NotATree);
     }
     if out.len() < tree.len() {
         return display_apart(tree, out);
     }
-    let n = print_row(tree, 0, out, 0);
-    Displayed::Done(n)
+    Ok(print_row(tree, 0, out, 0))
 }

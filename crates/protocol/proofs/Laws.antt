@@ -1,21 +1,16 @@
 -- Laws of hex, as loops over one byte or pair a turn use them. Assumes nothing.
 use Prim.Native.Nat.{ℕ, suc, ◌+◌, ◌*◌, ◌/◌, ◌%◌, ◌≤◌, ◌<◌}
 use mathlib.Core.Path.{◌≡◌, refl, sym, ap, ap₂, ◌∙◌}
-use mathlib.Core.Bool.{true, false, cond, and-false}
 use mathlib.Core.List.{List, [], ◌∷◌, ◌++◌, append_assoc}
 use native.Mathlib.Omega.{arith}
 use native.Mathlib.Numerals.{add-one}
 use lib.ListN.{length, get_or, take, drop, set, length-drop, take-append-drop}
 use lib.Seq.{drop-cons, take-suc, take-suc-set, length-take-le}
-use lib.Dec.{ltb, eqb}
-use borrow.Author.Tests.{lt-ltb, le-ltb, eq-eqb, ne_eqb}
-use Rattle.text.specs.Bytes.{same, over}
-use Rattle.protocol.specs.Hex.{digit_of, digit_value, hex_of, field_of, is_pair, pairs, filled}
+use Rattle.std.proofs.Common.{Some}
+use Rattle.text.specs.Bytes.{over}
+use Rattle.protocol.specs.Hex.{digit_of, digit_value, hex_of, before, pairs}
 
 module _ (f : List ℕ) (i : ℕ) (h : i + 1 < length f) where
-  abbrev pub byte : ℕ
-  byte = digit_value (get_or f i 0) * 16 + digit_value (get_or f (i + 1) 0)
-
   two : drop i f ≡ get_or f i 0 ∷ get_or f (i + 1) 0 ∷ drop (i + 2) f
   two =
       drop-cons f i 0 (omega arith) ∙ ap (λ (l : List ℕ). get_or f i 0 ∷ l) (ap (λ (k : ℕ). drop k f) (sym (add-one i)) ∙ drop-cons f (i + 1) 0 h ∙ ap (λ (k : ℕ). get_or f (i + 1) 0 ∷ drop k f) (more i))
@@ -23,22 +18,17 @@ module _ (f : List ℕ) (i : ℕ) (h : i + 1 < length f) where
       more : (i : ℕ) → suc (i + 1) ≡ i + 2
       more i = omega arith
 
-  step : pairs (drop i f) ≡ cond (is_pair (get_or f i 0) (get_or f (i + 1) 0)) (byte ∷ pairs (drop (i + 2) f)) []
+  -- the next pair
+  pub pairs_step : pairs (drop i f) ≡ before (digit_value (get_or f i 0)) (digit_value (get_or f (i + 1) 0)) (pairs (drop (i + 2) f))
   unfolding pairs
-  step = ap pairs two
+  pairs_step = ap pairs two
 
   -- a pair is read, and its byte put
-  pub pairs_put : (out : List ℕ) (n b : ℕ) → n < length out → b ≡ byte → digit_value (get_or f i 0) < 16 → digit_value (get_or f (i + 1) 0) < 16 → take (n + 1) (set out n b) ++ pairs (drop (i + 2) f) ≡ take n out ++ pairs (drop i f)
-  pairs_put out n b k e p q =
-      ap (λ (xs : List ℕ). xs ++ pairs (drop (i + 2) f)) (ap (λ (m : ℕ). take m (set out n b)) (add-one n) ∙ take-suc-set out n b k ∙ ap (λ (m : ℕ). take n out ++ (m ∷ [])) e)
-      ∙ append_assoc (take n out) (byte ∷ []) (pairs (drop (i + 2) f))
-      ∙ ap (λ (l : List ℕ). take n out ++ l) (sym (step ∙ rw (lt-ltb _ _ p, lt-ltb _ _ q)))
-
-  pub pairs-no-first : 16 ≤ digit_value (get_or f i 0) → pairs (drop i f) ≡ []
-  pairs-no-first p = step ∙ rw (le-ltb _ _ p)
-
-  pub pairs-no_second : 16 ≤ digit_value (get_or f (i + 1) 0) → pairs (drop i f) ≡ []
-  pairs-no_second p = step ∙ rw (le-ltb _ _ p, and-false (ltb (digit_value (get_or f i 0)) 16))
+  pub pairs_put : (out : List ℕ) (n high low : ℕ) → n < length out → digit_value (get_or f i 0) ≡ Some high → digit_value (get_or f (i + 1) 0) ≡ Some low → take (n + 1) (set out n (high * 16 + low)) ++ pairs (drop (i + 2) f) ≡ take n out ++ pairs (drop i f)
+  pairs_put out n high low k p q =
+      ap (λ (xs : List ℕ). xs ++ pairs (drop (i + 2) f)) (ap (λ (m : ℕ). take m (set out n (high * 16 + low))) (add-one n) ∙ take-suc-set out n (high * 16 + low) k)
+      ∙ append_assoc (take n out) ((high * 16 + low) ∷ []) (pairs (drop (i + 2) f))
+      ∙ ap (λ (l : List ℕ). take n out ++ l) (sym (pairs_step ∙ rw (p, q)))
 
 -- less than two bytes are left
 pub pairs_end : (f : List ℕ) (i : ℕ) → length f ≤ i + 1 → pairs (drop i f) ≡ []
@@ -55,17 +45,6 @@ pub over_is : (new old s : List ℕ) (n : ℕ) → n ≤ length new → take n n
 over_is new old s n h e d =
     let l : n ≡ length s = sym (length-take-le n new h) ∙ ap length e in
     (l, sym (take-append-drop n new) ∙ ap₂ ◌++◌ e (d ∙ ap (λ (k : ℕ). drop k old) l))
-
--- what is said of a field, one law for each way that the code takes
-module _ (f : List ℕ) (n : ℕ) where
-  pub said_dash : same (45 ∷ []) f ≡ true → n ≡ length (pairs f) → record { good = true; len = n } ≡ filled f
-  said_dash e k = rw (e, k)
-
-  pub said-empty : same (45 ∷ []) f ≡ false → length f ≡ 0 → n ≡ length (pairs f) → record { good = false; len = n } ≡ filled f
-  said-empty e h k = rw (e, eq-eqb (length f) 0 h, k)
-
-  pub said-pairs : same (45 ∷ []) f ≡ false → (length f ≡ 0 → ⊥) → n ≡ length (pairs f) → record { good = eqb (2 * n) (length f); len = n } ≡ filled f
-  said-pairs e h k = rw (e, ne_eqb (length f) 0 h, k)
 
 pub length_hex : (s : List ℕ) → length (hex_of s) ≡ 2 * length s
 unfolding hex_of
@@ -85,11 +64,3 @@ pub hex_more : (s : List ℕ) (i x y : ℕ) → i < length s → x ≡ digit_of 
 unfolding hex_of
 hex_more s i x y h e f =
     rw (e, f, add-one, take-suc s i 0 h) (append_assoc (hex_of (take i s)) (digit_of (get_or s i 0 / 16) ∷ []) (digit_of (get_or s i 0 % 16) ∷ []) ∙ sym (hex_append (take i s) (get_or s i 0 ∷ [])))
-
-pub field_some : (s : List ℕ) → 0 < length s → field_of s ≡ hex_of s
-field_some [] h = absurd (omega arith)
-field_some (b ∷ s) h = refl
-
-pub field_none : (s : List ℕ) → length s ≡ 0 → field_of s ≡ 45 ∷ []
-field_none [] h = refl
-field_none (b ∷ s) h = absurd (omega arith)

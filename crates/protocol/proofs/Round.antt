@@ -6,6 +6,7 @@ use mathlib.Core.List.{List, [], ◌∷◌}
 use native.Mathlib.Omega.{arith}
 use native.Mathlib.Nat.{div-add-mod'}
 use lib.ListN.{length}
+use Rattle.std.proofs.Common.{Option, None, Some}
 use lib.Arith.{digits_div, digits_mod}
 use lib.Dec.{ltb, eqb}
 use borrow.Author.Tests.{lt-ltb, le-ltb, ltb-true, ltb-false, eq-eqb, ne_eqb, eqb-true, eqb-false}
@@ -13,37 +14,45 @@ use Rattle.laws.specs.Tests.{and_both}
 use Rattle.text.specs.Bytes.{all, same}
 use Rattle.text.proofs.Laws.{same_equal}
 use Rattle.protocol.proofs.Laws.{length_hex}
-use Rattle.protocol.specs.Hex.{digit_of, digit_value, hex_of, field_of, is_pair, pairs, is_field}
+use Rattle.protocol.specs.Hex.{digit_of, digit_value, hex_of, field_of, before, pairs, is_field}
 
 -- a byte
 abbrev pub is_byte : ℕ → Bool
 is_byte b = ltb b 256
 
-digit_back : (d : ℕ) → d < 16 → digit_value (digit_of d) ≡ d
+digit_back : (d : ℕ) → d < 16 → digit_value (digit_of d) ≡ Some d
 unfolding digit_of digit_value
 digit_back d h = go (ltb d 10) refl
   where
-    go : (t : Bool) → ltb d 10 ≡ t → digit_value (digit_of d) ≡ d
-    go true e = let l : d < 10 = ltb-true d 10 e in rw (e, le-ltb (48 + d) 48 (omega arith), lt-ltb (48 + d) 58 (omega arith)) (omega arith)
+    some : (m n : ℕ) → m ≡ n → Some m ≡ Some n
+    some m n e = ap (λ (x : ℕ). Some x) e
+
+    go : (t : Bool) → ltb d 10 ≡ t → digit_value (digit_of d) ≡ Some d
+    go true e = let l : d < 10 = ltb-true d 10 e in rw (e, le-ltb (48 + d) 48 (omega arith), lt-ltb (48 + d) 58 (omega arith)) (some _ _ (omega arith))
     go false e =
         let l : 10 ≤ d = ltb-false d 10 e in
-        rw (e, le-ltb (87 + d) 48 (omega arith), le-ltb (87 + d) 58 (omega arith), le-ltb (87 + d) 97 (omega arith), lt-ltb (87 + d) 103 (omega arith)) (omega arith)
+        rw (e, le-ltb (87 + d) 48 (omega arith), le-ltb (87 + d) 58 (omega arith), le-ltb (87 + d) 97 (omega arith), lt-ltb (87 + d) 103 (omega arith)) (some _ _ (omega arith))
 
-digit_only : (b : ℕ) → digit_value b < 16 → digit_of (digit_value b) ≡ b
+digit_only : (b d : ℕ) → digit_value b ≡ Some d → (d < 16) × (digit_of d ≡ b)
 unfolding digit_of digit_value
-digit_only b h = go (ltb b 48) refl (ltb b 58) refl (ltb b 97) refl (ltb b 103) refl
+digit_only b d h = go (ltb b 48) refl (ltb b 58) refl (ltb b 97) refl (ltb b 103) refl
   where
-    go : (t : Bool) → ltb b 48 ≡ t → (u : Bool) → ltb b 58 ≡ u → (v : Bool) → ltb b 97 ≡ v → (w : Bool) → ltb b 103 ≡ w → digit_of (digit_value b) ≡ b
-    go true e u f v g w k = let z = rw e at h in absurd (omega arith)
+    go : (t : Bool) → ltb b 48 ≡ t → (u : Bool) → ltb b 58 ≡ u → (v : Bool) → ltb b 97 ≡ v → (w : Bool) → ltb b 103 ≡ w → (d < 16) × (digit_of d ≡ b)
+    go true e u f v g w k = let z = rw e at h in cc
     go false e true f v g w k =
         let l : b < 58 = ltb-true b 58 f in
         let m : 48 ≤ b = ltb-false b 48 e in
-        rw (e, f, lt-ltb (b - 48) 10 (omega arith)) (omega arith)
-    go false e false f true g w k = let z = rw (e, f, g) at h in absurd (omega arith)
+        let z = rw (e, f) at h in
+        let y : b - 48 ≡ d = cc in
+        (omega arith, rw (lt-ltb d 10 (omega arith)) (omega arith))
+    go false e false f true g w k = let z = rw (e, f, g) at h in cc
     go false e false f false g true k =
         let l : 97 ≤ b = ltb-false b 97 g in
-        rw (e, f, g, k, le-ltb (b - 87) 10 (omega arith)) (omega arith)
-    go false e false f false g false k = let z = rw (e, f, g, k) at h in absurd (omega arith)
+        let m : b < 103 = ltb-true b 103 k in
+        let z = rw (e, f, g, k) at h in
+        let y : b - 87 ≡ d = cc in
+        (omega arith, rw (le-ltb d 10 (omega arith)) (omega arith))
+    go false e false f false g false k = let z = rw (e, f, g, k) at h in cc
 
 high_half : (b : ℕ) → b < 256 → b / 16 < 16
 high_half b h = omega arith
@@ -55,7 +64,7 @@ pairs_back (b ∷ s) h =
     let q = and_both (is_byte b) (all is_byte s) h in
     let low : b % 16 < 16 = omega arith in
     let high = high_half b (ltb-true b 256 q.0) in
-    rw (digit_back (b / 16) high, digit_back (b % 16) low, lt-ltb (b / 16) 16 high, lt-ltb (b % 16) 16 low, pairs_back s q.1) (ap (λ (n : ℕ). n ∷ s) (div-add-mod' b 16))
+    rw (digit_back (b / 16) high, digit_back (b % 16) low, pairs_back s q.1) (ap (λ (n : ℕ). n ∷ s) (div-add-mod' b 16))
 
 -- two digits and more are more than `-`
 field_hex : (f : List ℕ) → 1 < length f → 2 * length (pairs f) ≡ length f → is_field f ≡ true
@@ -75,16 +84,16 @@ pairs_only : (f : List ℕ) → 2 * length (pairs f) ≡ length f → hex_of (pa
 unfolding pairs hex_of
 pairs_only [] h = refl
 pairs_only (a ∷ []) h = absurd (omega arith)
-pairs_only (a ∷ b ∷ f) h = go (is_pair a b) refl (pairs_only f) h
+pairs_only (a ∷ b ∷ f) h = go (digit_value a) refl (digit_value b) refl (pairs_only f) h
   where
-    go : (t : Bool) → is_pair a b ≡ t → (2 * length (pairs f) ≡ length f → hex_of (pairs f) ≡ f) → 2 * length (cond t ((digit_value a * 16 + digit_value b) ∷ pairs f) []) ≡ suc (suc (length f)) → hex_of (cond t ((digit_value a * 16 + digit_value b) ∷ pairs f) []) ≡ a ∷ b ∷ f
-    go false e ih h = absurd (omega arith)
-    go true e ih h =
-        let q = and_both (ltb (digit_value a) 16) (ltb (digit_value b) 16) e in
-        let x = ltb-true (digit_value a) 16 q.0 in
-        let y = ltb-true (digit_value b) 16 q.1 in
-        ap (λ (l : List ℕ). digit_of ((digit_value a * 16 + digit_value b) / 16) ∷ digit_of ((digit_value a * 16 + digit_value b) % 16) ∷ l) (ih (omega arith))
-        ∙ ap₂ (λ (m n : ℕ). m ∷ n ∷ f) (ap digit_of (digits_div (digit_value a) y) ∙ digit_only a x) (ap digit_of (digits_mod (digit_value a) y) ∙ digit_only b y)
+    go : (t : Option ℕ) → digit_value a ≡ t → (u : Option ℕ) → digit_value b ≡ u → (2 * length (pairs f) ≡ length f → hex_of (pairs f) ≡ f) → 2 * length (before t u (pairs f)) ≡ suc (suc (length f)) → hex_of (before t u (pairs f)) ≡ a ∷ b ∷ f
+    go None d u e ih h = absurd (omega arith)
+    go (Some x) d None e ih h = absurd (omega arith)
+    go (Some x) d (Some y) e ih h =
+        let p = digit_only a x d in
+        let q = digit_only b y e in
+        ap (λ (l : List ℕ). digit_of ((x * 16 + y) / 16) ∷ digit_of ((x * 16 + y) % 16) ∷ l) (ih (omega arith))
+        ∙ ap₂ (λ (m n : ℕ). m ∷ n ∷ f) (ap digit_of (digits_div x q.0) ∙ p.1) (ap digit_of (digits_mod x q.0) ∙ q.1)
 
 -- only what is written for a byte string is a field with it
 pub field_only : (f : List ℕ) → is_field f ≡ true → field_of (pairs f) ≡ f

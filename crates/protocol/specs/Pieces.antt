@@ -1,7 +1,5 @@
 -- The pieces of a line, each after one space but the first. Assumes nothing.
 use Rattle.std.specs.Prelude.{ℕ, List, [], ◌∷◌, cond, eqb}
-use Rattle.text.specs.Quoted.{ascii}
-use Rattle.text.specs.Bytes.{place}
 
 -- the pieces with a byte in front of the first
 abbrev pub grown : ℕ → List (List ℕ) → List (List ℕ)
@@ -12,11 +10,3 @@ grown b (p ∷ ps) = (b ∷ p) ∷ ps
 unfoldable pub pieces : List ℕ → List (List ℕ)
 pieces [] = [] ∷ []
 pieces (b ∷ s) = cond (eqb b 32) ([] ∷ pieces s) (grown b (pieces s))
-
--- 1 of a space, 0 of any other byte
-abbrev pub spaces_of : ℕ → ℕ
-spaces_of b = cond (eqb b 32) 1 0
-
--- how many bytes stand before the first space
-abbrev pub width : List ℕ → ℕ
-width s = place (ascii " ") s

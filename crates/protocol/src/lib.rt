@@ -3,21 +3,15 @@
 
 #![tactic(auto)]
 
-ghost use Rattle.std.specs.Prelude.{◌≡◌, [], ◌+◌, ◌*◌, ◌≤◌, ◌<◌, length, get_or};
+ghost use Rattle.std.specs.Prelude.{◌≡◌, [], ◌+◌, ◌*◌, ◌≤◌, ◌<◌, length, get_or, IfSome};
 ghost use Rattle.fields.specs.Appended.{Appended};
 ghost use Rattle.protocol.specs.Hex.{digit_of, digit_value, field_of, pairs, filled, Within};
 ghost use Rattle.text.specs.Bytes.{over};
-ghost use Rattle.protocol.specs.Pieces.{spaces_of, pieces, width};
+ghost use Rattle.protocol.specs.Pieces.{pieces};
 
 use fields::put_byte;
 
-// Whether a field is a byte string, and how many bytes were put at the start of a lent buffer.
-#[derive(Clone, Copy)]
-pub struct Filled {
-    pub good: bool,
-    pub len: usize,
-}
-
+#[tactic(auto, unfolding(crate::specs::Hex::digit_of))]
 fn digit_of(d: u8) -> u8
     requires { d < 16 }
     ensures { result ≡ digit_of d }
@@ -25,23 +19,16 @@ fn digit_of(d: u8) -> u8
     if d < 10 { 48 + d } else { 87 + d }
 }
 
-// 16 for what is no digit.
-fn digit_value(b: u8) -> u8
-    ensures { result ≡ digit_value b }
+#[tactic(auto, unfolding(crate::specs::Hex::digit_value))]
+fn digit_value(b: u8) -> Option<u8>
+    ensures value { result ≡ digit_value b }
+    ensures upper_bound { IfSome result (λ d. d < 16) }
 {
-    if b < 48 {
-        return 16;
+    match b {
+        b'0'..=b'9' => Some(b - b'0'),
+        b'a'..=b'f' => Some(b - b'a' + 10),
+        _ => None,
     }
-    if b < 58 {
-        return b - 48;
-    }
-    if b < 97 {
-        return 16;
-    }
-    if b < 103 {
-        return b - 87;
-    }
-    16
 }
 
 // Puts what pairs of digits write at the start of out, up to the first that is no pair; how many bytes.
@@ -50,71 +37,34 @@ fn put_pairs(field: &[u8], out: &mut [u8]) -> usize
     ensures value { (result ≡ length (pairs field.now)) × (2 * result ≤ length field.now) }
     ensures out_after { out.new ≡ over (pairs field.now) out.old }
 {
-    let mut i = 0;
-    let mut n = 0;
-    while i + 1 < field.len() {
-        let high = digit_value(field[i]);
-        if 15 < high {
+    let count = field.len() / 2;
+    for n in 0..count {
+        let (Some(high), Some(low)) = (digit_value(field[2 * n]), digit_value(field[2 * n + 1]))
+        else {
             return n;
-        }
-        let low = digit_value(field[i + 1]);
-        if 15 < low {
-            return n;
-        }
+        };
         out[n] = high * 16 + low;
-        n += 1;
-        i += 2;
     }
-    n
+    count
 }
 
-// Puts a field's byte string at the start of out.
-pub fn decode(field: &[u8], out: &mut [u8]) -> Filled
+// Puts a field's byte string at the start of out, and returns its length.
+pub fn decode(field: &[u8], out: &mut [u8]) -> Option<usize>
     requires { length field.now ≤ 2 * length out.old }
-    ensures value { (result ≡ filled field.now) × Within result.len out.new }
+    ensures value { result ≡ filled field.now }
+    ensures within { IfSome result (λ n. Within n out.new) }
     ensures out_after { out.new ≡ over (pairs field.now) out.old }
 {
     let n = put_pairs(field, out);
-    if text::same_bytes(field, b"-") {
-        return Filled { good: true, len: n };
-    }
-    if field.len() == 0 {
-        return Filled {
-            good: false,
-            len: n,
-        };
-    }
-    Filled {
-        good: 2 * n == field.len(),
-        len: n,
-    }
-}
-
-// 1 of a space, 0 of any other byte.
-fn spaces(b: u8) -> usize
-    ensures { (result ≡ spaces_of b) × (result ≤ 1) }
-{
-    if b == 32 { 1 } else { 0 }
+    let is_whole = !field.is_empty() && 2 * n == field.len();
+    (text::same_bytes(field, b"-") || is_whole).then_some(n)
 }
 
 // How many pieces a line has: its word, and its fields.
 pub fn count_pieces(line: &[u8]) -> usize
     ensures { result ≡ length (pieces line.now) }
 {
-    let mut n = 1;
-    let mut i = 0;
-    while i < line.len() {
-        n += spaces(line[i]);
-        i += 1;
-    }
-    n
-}
-
-// Where the first space stands, or the end.
-fn piece_end(s: &[u8]) -> usize
-    ensures { (result ≡ width s.now) × (result ≤ length s.now) }
-{
-    text::find(s, b" ")
+    1 + line.iter().filter(|b| **b == b' ').count()
 }
 
 // A line's piece by its number, the word being number 0; one that is not there is empty.
@@ -122,18 +72,7 @@ pub fn piece(line: &[u8], number: usize) -> &[u8]
     ensures result_value { result.now ≡ get_or (pieces line.now) number [] }
     ensures result_in_bounds { length result.now ≤ length line.now }
 {
-    let mut from = 0;
-    let mut left = number;
-    while left > 0 {
-        let end = from + piece_end(text::tail(line, from));
-        if line.len() <= end {
-            return text::tail(line, end);
-        }
-        from = end + 1;
-        left -= 1;
-    }
-    let rest = text::tail(line, from);
-    text::head(rest, piece_end(rest))
+    line.split(|b| *b == b' ').nth(number).unwrap_or(&[])
 }
 
 // Writes s as a field at a place of out, and answers the place behind it.
@@ -142,16 +81,13 @@ pub fn put_hex(out: &mut [u8], at: usize, s: &[u8]) -> usize
     ensures upper_bound { result ≤ at + (2 * length s.now + 1) }
     ensures appended { Appended (field_of s.now) at out.old out.new result }
 {
-    if s.len() == 0 {
+    if s.is_empty() {
         return put_byte(out, at, b'-');
     }
-    let mut i = 0;
     let mut to = at;
-    while i < s.len() {
-        let b = s[i];
+    for b in s {
         to = put_byte(out, to, digit_of(b / 16));
         to = put_byte(out, to, digit_of(b % 16));
-        i += 1;
     }
     to
 }

@@ -1,12 +1,13 @@
 -- From the answers of the lexer and the parser to the tree of a text. Assumes nothing.
-use mathlib.Core.Path.{◌≡◌, refl, sym, ap, ◌∙◌, subst}
+use Rattle.std.specs.Prelude.{Result, Ok, Err}
+use mathlib.Core.Path.{◌≡◌, refl, sym, ap, ◌∙◌}
 use mathlib.Core.Bool.{true}
 use mathlib.Core.List.{List, ◌++◌}
 use Prim.Native.Nat.{ℕ, ◌+◌, ◌*◌, ◌≤◌}
 use native.Mathlib.Omega.{arith}
 use lib.ListN.{length, take, drop, length-take}
 use lib.Seq.{take_at}
-use Rattle.refusal.specs.Result.{Result, ok, refused, refuse, refused≢ok, map_ok, then}
+use Rattle.refusal.specs.Result.{err≢ok, map_ok, then}
 use Rattle.refusal.specs.declared.Refusal.{Refusal}
 use Rattle.utf8.specs.Utf8.{is_utf8, decode}
 use Rattle.utf8.specs.Limits.{text_limit}
@@ -18,33 +19,31 @@ use Rattle.grammar.specs.Parse.{parse}
 use Rattle.grammar.proofs.Cites.{parse-cites}
 use Rattle.grammar.specs.Reading.{citation_limit, expression}
 use Rattle.grammar.proofs.Reading.{expression_given}
-use Rattle.lexer.specs.Tokens.{counted, lexed_said, tokenized}
-use Rattle.lexer.specs.declared.Lexed.{Lexed}
-use Rattle.lexer.specs.declared.Lexed.TheVariants as lex
+use Rattle.lexer.specs.Tokens.{counted, tokenized}
+use Rattle.lexer.specs.declared.Place.{Place}
 use Rattle.lexer.proofs.Turns as turns
 use Rattle.lexer.proofs.Told.{Told, told, told_refused}
 use Rattle.lexer.proofs.Limits.{tokenized_parsed}
 use Rattle.parser.specs.Packed.{packed}
-use Rattle.parser.specs.Answer.{cites_in, parsed_said, rows_in, parsed_kinds, rows_over}
-use Rattle.parser.specs.declared.Parsed.{Parsed}
-use Rattle.parser.specs.declared.Parsed.TheVariants as parsed
+use Rattle.parser.specs.declared.Row.{Row}
+use Rattle.parser.specs.Answer.{cites_in, rows_in, parsed_kinds, rows_over}
 use Rattle.parser.proofs.Bare.{said_by_kinds, rows_by_kinds, cites_of_kinds}
 use Rattle.parser.proofs.Orders.{packed-length}
 use Rattle.reader.specs.Made.{Room, Stands}
 
 -- the text has no tokens
-pub not_lexed : (s : List ℕ) (o : Lexed) (why : Refusal) → o ≡ lex.Refused why → lexed_said o ≡ map_ok counted (tokenized (decode s)) → expression (decode s) ≡ refuse why
+pub not_lexed : (s : List ℕ) (why : Refusal) → Err why ≡ map_ok counted (tokenized (decode s)) → expression (decode s) ≡ Err why
 unfolding then
-not_lexed s o why e a =
-    let q : tokenized (decode s) ≡ refuse why = told_refused (tokenized (decode s)) why (sym (ap lexed_said e) ∙ a) in
+not_lexed s why a =
+    let q : tokenized (decode s) ≡ Err why = told_refused (tokenized (decode s)) why a in
     sym (tokenized_parsed (decode s)) ∙ rw q
 
-module _ (s kinds places : List ℕ) (k p w r : ℕ) (room : Room (length s) k p w r) (isk : length kinds ≡ k) (isp : length places ≡ p) (n m b : ℕ) where
+module _ (s kinds : List ℕ) (places : List Place) (k p w r : ℕ) (room : Room (length s) k p w r) (isk : length kinds ≡ k) (isp : length places ≡ p) (n m b : ℕ) where
   -- what `lex` told
-  pub told_counts : is_utf8 s ≡ true → (kinds₀ places₀ : List ℕ) → length places ≡ length places₀ → (o : Lexed) → o ≡ lex.Tokens n m b → turns.Answers s kinds₀ places₀ kinds places o → Told s kinds places n m b
-  told_counts u kinds₀ places₀ same o e a =
-      told s kinds₀ places₀ kinds places n m b u (omega (arith, room.tokens, room.short)) same (λ x y. let z = room.cites m x (omega arith) in omega arith)
-      (subst (turns.Answers s kinds₀ places₀ kinds places) e a)
+  pub told_counts : is_utf8 s ≡ true → (kinds₀ : List ℕ) (places₀ : List Place) → length places ≡ length places₀ → turns.Answers s kinds₀ places₀ kinds places (Ok (record { tokens = n; cites = m; bytes = b })) → Told s kinds places n m b
+  told_counts u kinds₀ places₀ same a =
+      told s kinds₀ places₀ kinds places n m b u same (λ x y. let z = room.cites m x (omega arith) in omega arith)
+      a
 
   module _ (t : Told s kinds places n m b) where
     cites_are : cites_in (take n kinds) ≡ m
@@ -71,31 +70,31 @@ module _ (s kinds places : List ℕ) (k p w r : ℕ) (room : Room (length s) k p
     rows_of = ap (λ x. rows_in (parsed_kinds x)) t.shown ∙ rows_by_kinds t.toks
 
     -- the tokens are no expression
-    pub not_parsed : (o : Parsed) (why : Refusal) → o ≡ parsed.Refused why → parsed_said o ≡ map_ok span (parsed_kinds (take n kinds)) → expression (decode s) ≡ refuse why
+    pub not_parsed : (why : Refusal) → Err why ≡ map_ok span (parsed_kinds (take n kinds)) → expression (decode s) ≡ Err why
     unfolding map_ok
-    not_parsed o why e a = read_by ∙ go (parse t.toks) (sym (ap parsed_said e) ∙ a ∙ said_of)
+    not_parsed why a = read_by ∙ go (parse t.toks) (a ∙ said_of)
       where
-        go : (x : Result Expr) → refuse why ≡ map_ok span x → x ≡ refuse why
-        go (ok x) h = absurd (refused≢ok h)
-        go (refused j) h = cc
+        go : (x : Result Expr Refusal) → Err why ≡ map_ok span x → x ≡ Err why
+        go (Ok x) h = absurd (err≢ok h)
+        go (Err j) h = cc
 
-    record Was (x : Result Expr) (nodes : ℕ) : Type 0 where
+    record Was (x : Result Expr Refusal) (nodes : ℕ) : Type 0 where
       pub tree : Expr
-      pub is : x ≡ ok tree
+      pub is : x ≡ Ok tree
       pub many : nodes ≡ span tree
 
-    was : (x : Result Expr) (nodes : ℕ) → ok nodes ≡ map_ok span x → Was x nodes
+    was : (x : Result Expr Refusal) (nodes : ℕ) → Ok nodes ≡ map_ok span x → Was x nodes
     unfolding map_ok
-    was (ok x) nodes h = record { tree = x; is = refl; many = cc }
-    was (refused j) nodes h = absurd (refused≢ok (sym h))
+    was (Ok x) nodes h = record { tree = x; is = refl; many = cc }
+    was (Err j) nodes h = absurd (err≢ok (sym h))
 
     -- the tree of the text
-    pub stands : is_utf8 s ≡ true → (old held : List ℕ) (nodes : ℕ) (o : Parsed) → o ≡ parsed.Rows nodes → parsed_said o ≡ map_ok span (parsed_kinds (take n kinds))
+    pub stands : is_utf8 s ≡ true → (old held : List Row) (nodes : ℕ) → Ok nodes ≡ map_ok span (parsed_kinds (take n kinds))
         → held ≡ rows_over (parsed_kinds (take n kinds)) old → Stands s places held nodes m b
-    stands u old held nodes o e a h =
-        let g = was (parse t.toks) nodes (sym (ap parsed_said e) ∙ a ∙ said_of) in
+    stands u old held nodes a h =
+        let g = was (parse t.toks) nodes (a ∙ said_of) in
         let x = g.tree in
-        let is : expression (decode s) ≡ ok x = read_by ∙ g.is in
+        let is : expression (decode s) ≡ Ok x = read_by ∙ g.is in
         let c : citations x ≡ texts t.toks = parse-cites t.toks x g.is in
         let size : length (packed (rows 0 x)) ≡ nodes = packed-length (rows 0 x) ∙ rows_span 0 x ∙ sym g.many in
         let rowed : take nodes held ≡ packed (rows 0 x) =

@@ -1,15 +1,16 @@
 -- What is known of a text's tree before it is written. Assumes nothing.
-use Rattle.std.specs.Prelude.{◌≡◌, List, ℕ, ◌+◌, ◌*◌, ◌≤◌, length, take}
-use Rattle.refusal.specs.Result.{ok, refuse}
+use Rattle.std.specs.Prelude.{◌≡◌, List, ℕ, ◌+◌, ◌*◌, ◌≤◌, length, take, Result, Ok, Err}
+use Rattle.refusal.specs.declared.Refusal.{Refusal}
 use Rattle.utf8.specs.Utf8.{decode}
 use Rattle.utf8.specs.Limits.{text_limit}
 use Rattle.grammar.specs.Expr.{Expr, concat, citations, count}
 use Rattle.grammar.specs.Rows.{rows, span}
 use Rattle.grammar.specs.Reading.{citation_limit, expression, Fits}
 use Rattle.lexer.specs.Tokens.{cuts}
+use Rattle.lexer.specs.declared.Place.{Place}
 use Rattle.parser.specs.Packed.{packed}
+use Rattle.parser.specs.declared.Row.{Row}
 use Rattle.reader.specs.declared.Sizes.{Sizes}
-use Rattle.reader.specs.declared.Sizes.TheVariants.{Tree, Refused}
 
 -- the scratch has room for the tokens of a text of n bytes, and for as many citations as so many tokens can be
 pub record Room (n kinds places work rows : ℕ) : Type 0 where
@@ -20,9 +21,9 @@ pub record Room (n kinds places work rows : ℕ) : Type 0 where
   pub nodes : (m : ℕ) → m ≤ citation_limit → m ≤ kinds → 2 * m ≤ rows + 1
 
 -- the text reads as a tree, whose rows and places of citations stand in front
-pub record Stands (s places held : List ℕ) (n c t : ℕ) : Type 0 where
+pub record Stands (s : List ℕ) (places : List Place) (held : List Row) (n c t : ℕ) : Type 0 where
   pub tree : Expr
-  pub is : expression (decode s) ≡ ok tree
+  pub is : expression (decode s) ≡ Ok tree
   pub fits : Fits tree
   pub nodes : n ≡ span tree
   pub cites : c ≡ count tree
@@ -33,6 +34,6 @@ pub record Stands (s places held : List ℕ) (n c t : ℕ) : Type 0 where
   pub cites_room : c ≤ length places
 
 -- what `make` says
-abbrev pub Made : (s places held : List ℕ) → Sizes → Type 0
-Made s places held (Tree n c t) = Stands s places held n c t
-Made s places held (Refused why) = expression (decode s) ≡ refuse why
+abbrev pub Made : (s : List ℕ) (places : List Place) (held : List Row) → Result Sizes Refusal → Type 0
+Made s places held (Ok m) = Stands s places held m.nodes m.cites m.bytes
+Made s places held (Err why) = expression (decode s) ≡ Err why

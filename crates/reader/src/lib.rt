@@ -5,19 +5,18 @@
 ghost use Rattle.std.specs.Prelude.{◌≡◌, true, ◌+◌, ◌≤◌, length, drop};
 ghost use Rattle.utf8.specs.Utf8.{is_utf8, decode};
 ghost use Rattle.utf8.specs.Limits.{text_limit};
-ghost use Rattle.grammar.specs.Reading.{expression};
+ghost use Rattle.grammar.specs.Reading.{expression, citation_limit, node_limit};
 ghost use Rattle.grammar.specs.Status.{words, after_word, of_words};
 ghost use Rattle.grammar.specs.Outcome.{answer_of, written_of, parse_answer, status_answer};
-ghost use Rattle.reader.specs.Said.{parse_said, tree_outcome, status_said, status_outcome};
+ghost use Rattle.reader.specs.Said.{tree_outcome, status_outcome};
 ghost use Rattle.reader.specs.Made.{Room, Made};
 
-use lexer::Lexed;
-use parser::Parsed;
+use lexer::{Lexed, Place};
+use parser::Row;
 use refusal::Refusal;
-use status::{StatusKind, WordAnswer};
-use text::between;
-use tree::{CITATION_LIMIT, NODE_LIMIT};
-use utf8::{Admitted, TEXT_LIMIT};
+use status::StatusKind;
+use tree::{CITATION_LIMIT, CITE_SIZE, HEAD_SIZE, NODE_LIMIT, ROW_SIZE};
+use utf8::TEXT_LIMIT;
 
 // Texts of so many bytes are read in a scratch that is small: they have no more tokens, and fewer than twice as many nodes.
 const SHORT: usize = 32;
@@ -28,30 +27,21 @@ const MEDIUM: usize = 128;
 
 const MEDIUM_NODES: usize = 255;
 
-// The length of the tree that was written, or why there is none.
-#[derive(Clone, Copy)]
-pub enum ParseAnswer {
-    Length(usize),
-    Refused(Refusal),
-}
+// What stands in a scratch before a place or a row is written there.
+const NO_PLACE: Place = Place { from: 0, size: 0 };
 
-// The status word, with the length of the tree that was written after it if there is one; or why there is no status.
-#[derive(Clone, Copy)]
-pub enum StatusAnswer {
-    Alone(StatusKind),
-    Tree { kind: StatusKind, length: usize },
-    Refused(Refusal),
-}
+const NO_ROW: Row = Row {
+    kind: 0,
+    number: 0,
+    size: 0,
+};
 
 // The counts of node rows, of citations and of the bytes in them.
 #[derive(Clone, Copy)]
-enum Sizes {
-    Tree {
-        nodes: usize,
-        cites: usize,
-        bytes: usize,
-    },
-    Refused(Refusal),
+struct Sizes {
+    nodes: usize,
+    cites: usize,
+    bytes: usize,
 }
 
 #[derive(Clone, Copy)]
@@ -64,123 +54,90 @@ pub struct Status {}
 fn make(
     text: &[u8],
     kinds: &mut [u8],
-    places: &mut [u32],
-    work: &mut [u64],
-    rows: &mut [u64],
-) -> Sizes
+    places: &mut [Place],
+    work: &mut [Row],
+    rows: &mut [Row],
+) -> Result<Sizes, Refusal>
     requires { (length text.now ≤ text_limit) × (is_utf8 text.now ≡ true) × Room (length text.now) (length kinds.old) (length places.old) (length work.old) (length rows.old) }
     ensures { Made text.now places.new rows.new result }
 {
-    match lexer::lex(text, kinds, places) {
-        Lexed::Refused(why) => Sizes::Refused(why),
-        Lexed::Tokens {
-            tokens,
-            cites,
-            bytes,
-        } => match parser::parse_tokens(&kinds[..tokens], work, rows) {
-            Parsed::Refused(why) => Sizes::Refused(why),
-            Parsed::Rows(nodes) => Sizes::Tree {
-                nodes: nodes,
-                cites: cites,
-                bytes: bytes,
-            },
-        },
-    }
+    let Lexed {
+        tokens,
+        cites,
+        bytes,
+    } = lexer::lex(text, kinds, places)?;
+    let nodes = parser::parse_tokens(&kinds[..tokens], work, rows)?;
+    Ok(Sizes {
+        nodes,
+        cites,
+        bytes,
+    })
 }
 
 // Writes the tree of a text that was admitted, if there is room.
 fn read(
     text: &[u8],
     kinds: &mut [u8],
-    places: &mut [u32],
-    work: &mut [u64],
-    rows: &mut [u64],
+    places: &mut [Place],
+    work: &mut [Row],
+    rows: &mut [Row],
     out: &mut [u8],
-) -> ParseAnswer
+) -> Result<usize, Refusal>
     requires { (length text.now ≤ text_limit) × (is_utf8 text.now ≡ true) × Room (length text.now) (length kinds.old) (length places.old) (length work.old) (length rows.old) }
-    ensures result_value { parse_said result ≡ answer_of (tree_outcome (expression (decode text.now))) (length out.old) }
+    ensures result_value { result ≡ answer_of (tree_outcome (expression (decode text.now))) (length out.old) }
     ensures out_after { out.new ≡ written_of (tree_outcome (expression (decode text.now))) out.old }
 {
-    match make(text, kinds, places, work, rows) {
-        Sizes::Refused(why) => ParseAnswer::Refused(why),
-        Sizes::Tree {
-            nodes,
-            cites,
-            bytes,
-        } => {
-            let length = 12 + 6 * nodes + 4 * cites + bytes;
-            if out.len() < length {
-                return ParseAnswer::Refused(Refusal::NoRoom);
-            }
-            ParseAnswer::Length(writer::write_tree(rows, nodes, text, places, cites, bytes, out))
-        }
+    let Sizes {
+        nodes,
+        cites,
+        bytes,
+    } = make(text, kinds, places, work, rows)?;
+    let length = HEAD_SIZE + ROW_SIZE * nodes + CITE_SIZE * cites + bytes;
+    if out.len() < length {
+        return Err(Refusal::NoRoom);
     }
+    Ok(writer::write_tree(&rows[..nodes], text, &places[..cites], bytes, out))
 }
 
-// The same in a scratch of its own, for a short text.
-fn read_short(text: &[u8], out: &mut [u8]) -> ParseAnswer
-    requires { (length text.now ≤ 32) × (is_utf8 text.now ≡ true) }
-    ensures result_value { parse_said result ≡ answer_of (tree_outcome (expression (decode text.now))) (length out.old) }
+// The same in a scratch of its own, with room for so many tokens, citations and nodes.
+fn read_in<const TOKENS: usize, const CITES: usize, const NODES: usize>(
+    text: &[u8],
+    out: &mut [u8],
+) -> Result<usize, Refusal>
+    requires { Room (length text.now) TOKENS CITES NODES NODES × (CITES ≤ citation_limit) × (NODES ≤ node_limit) × (is_utf8 text.now ≡ true) }
+    ensures result_value { result ≡ answer_of (tree_outcome (expression (decode text.now))) (length out.old) }
     ensures out_after { out.new ≡ written_of (tree_outcome (expression (decode text.now))) out.old }
 {
-    let mut kinds = [0u8; SHORT];
-    let mut places = [0u32; SHORT];
-    let mut work = [0u64; SHORT_NODES];
-    let mut rows = [0u64; SHORT_NODES];
-    read(text, &mut kinds, &mut places, &mut work, &mut rows, out)
-}
-
-// For a text of medium length.
-fn read_medium(text: &[u8], out: &mut [u8]) -> ParseAnswer
-    requires { (length text.now ≤ 128) × (is_utf8 text.now ≡ true) }
-    ensures result_value { parse_said result ≡ answer_of (tree_outcome (expression (decode text.now))) (length out.old) }
-    ensures out_after { out.new ≡ written_of (tree_outcome (expression (decode text.now))) out.old }
-{
-    let mut kinds = [0u8; MEDIUM];
-    let mut places = [0u32; MEDIUM];
-    let mut work = [0u64; MEDIUM_NODES];
-    let mut rows = [0u64; MEDIUM_NODES];
-    read(text, &mut kinds, &mut places, &mut work, &mut rows, out)
-}
-
-// For any text.
-fn read_long(text: &[u8], out: &mut [u8]) -> ParseAnswer
-    requires { (length text.now ≤ text_limit) × (is_utf8 text.now ≡ true) }
-    ensures result_value { parse_said result ≡ answer_of (tree_outcome (expression (decode text.now))) (length out.old) }
-    ensures out_after { out.new ≡ written_of (tree_outcome (expression (decode text.now))) out.old }
-{
-    let mut kinds = [0u8; TEXT_LIMIT];
-    let mut places = [0u32; CITATION_LIMIT];
-    let mut work = [0u64; NODE_LIMIT];
-    let mut rows = [0u64; NODE_LIMIT];
+    let mut kinds = [0u8; TOKENS];
+    let mut places = [NO_PLACE; CITES];
+    let mut work = [NO_ROW; NODES];
+    let mut rows = [NO_ROW; NODES];
     read(text, &mut kinds, &mut places, &mut work, &mut rows, out)
 }
 
 // In a scratch by the length of the text, since clearing a large one costs more than a short text.
-fn read_text(text: &[u8], out: &mut [u8]) -> ParseAnswer
+fn read_text(text: &[u8], out: &mut [u8]) -> Result<usize, Refusal>
     requires { (length text.now ≤ text_limit) × (is_utf8 text.now ≡ true) }
-    ensures result_value { parse_said result ≡ answer_of (tree_outcome (expression (decode text.now))) (length out.old) }
+    ensures result_value { result ≡ answer_of (tree_outcome (expression (decode text.now))) (length out.old) }
     ensures out_after { out.new ≡ written_of (tree_outcome (expression (decode text.now))) out.old }
 {
     if text.len() <= SHORT {
-        return read_short(text, out);
+        return read_in::<SHORT, SHORT, SHORT_NODES>(text, out);
     }
     if text.len() <= MEDIUM {
-        return read_medium(text, out);
+        return read_in::<MEDIUM, MEDIUM, MEDIUM_NODES>(text, out);
     }
-    read_long(text, out)
+    read_in::<TEXT_LIMIT, CITATION_LIMIT, NODE_LIMIT>(text, out)
 }
 
 impl Expr {
     // Writes the tree that a text reads as: 10, 11, the leftmost of 1, 2, 3, then 6, 12, 13, the first met of 4 and 5, and 14.
-    pub fn parse(text: &[u8], out: &mut [u8]) -> ParseAnswer
-        ensures result_value { parse_said result ≡ answer_of (parse_answer text.now) (length out.old) }
+    pub fn parse(text: &[u8], out: &mut [u8]) -> Result<usize, Refusal>
+        ensures result_value { result ≡ answer_of (parse_answer text.now) (length out.old) }
         ensures out_after { out.new ≡ written_of (parse_answer text.now) out.old }
     {
-        match utf8::admit(text, TEXT_LIMIT) {
-            Admitted::Refused(why) => ParseAnswer::Refused(why),
-            Admitted::Fine => read_text(text, out),
-        }
+        utf8::admit(text, TEXT_LIMIT)?;
+        read_text(text, out)
     }
 }
 
@@ -191,62 +148,66 @@ fn after_word(
     from: usize,
     joined: &mut [u8],
     out: &mut [u8],
-) -> StatusAnswer
+) -> Result<(StatusKind, Option<usize>), Refusal>
     requires { (from ≤ length text.now) × (length text.now ≤ length joined.old) × (length joined.old ≤ text_limit) × (is_utf8 (drop from text.now) ≡ true) }
-    ensures result_value { status_said result ≡ answer_of (status_outcome (after_word kind (words (decode (drop from text.now))))) (length out.old) }
+    ensures result_value { result ≡ answer_of (status_outcome (after_word kind (words (decode (drop from text.now))))) (length out.old) }
     ensures out_after { out.new ≡ written_of (status_outcome (after_word kind (words (decode (drop from text.now))))) out.old }
 {
     let n = lexer::join_words(text, from, joined);
     if n == 0 {
-        return StatusAnswer::Alone(kind);
+        return Ok((kind, None));
     }
-    match read_text(&joined[..n], out) {
-        ParseAnswer::Refused(why) => StatusAnswer::Refused(why),
-        ParseAnswer::Length(length) => StatusAnswer::Tree {
-            kind: kind,
-            length: length,
-        },
-    }
+    let length = read_text(&joined[..n], out)?;
+    Ok((kind, Some(length)))
 }
 
 // The status of a text that was admitted.
-fn read_status(text: &[u8], joined: &mut [u8], out: &mut [u8]) -> StatusAnswer
+fn read_status(
+    text: &[u8],
+    joined: &mut [u8],
+    out: &mut [u8],
+) -> Result<(StatusKind, Option<usize>), Refusal>
     requires { (length text.now ≤ length joined.old) × (length joined.old ≤ text_limit) × (is_utf8 text.now ≡ true) }
-    ensures result_value { status_said result ≡ answer_of (status_outcome (of_words (words (decode text.now)))) (length out.old) }
+    ensures result_value { result ≡ answer_of (status_outcome (of_words (words (decode text.now)))) (length out.old) }
     ensures out_after { out.new ≡ written_of (status_outcome (of_words (words (decode text.now)))) out.old }
 {
     let word = lexer::first_word(text);
-    let from = word.from;
-    let end = word.end;
-    match StatusKind::from_word(between(text, from, end - from)) {
-        WordAnswer::NoWord => StatusAnswer::Refused(Refusal::NoStatusWord),
-        WordAnswer::Is(kind) => after_word(kind, text, end, joined, out),
-    }
+    let kind = StatusKind::from_word(&text[word.from..word.end])?;
+    after_word(kind, text, word.end, joined, out)
 }
 
-// The same in a scratch of its own, by the length of the text.
-fn scan_status(text: &[u8], out: &mut [u8]) -> StatusAnswer
+// The same in a scratch of its own, with room for so many bytes.
+fn read_status_in<const BYTES: usize>(
+    text: &[u8],
+    out: &mut [u8],
+) -> Result<(StatusKind, Option<usize>), Refusal>
+    requires { (length text.now ≤ BYTES) × (BYTES ≤ text_limit) × (is_utf8 text.now ≡ true) }
+    ensures result_value { result ≡ answer_of (status_outcome (of_words (words (decode text.now)))) (length out.old) }
+    ensures out_after { out.new ≡ written_of (status_outcome (of_words (words (decode text.now)))) out.old }
+{
+    let mut joined = [0u8; BYTES];
+    read_status(text, &mut joined, out)
+}
+
+// In a scratch by the length of the text.
+fn scan_status(text: &[u8], out: &mut [u8]) -> Result<(StatusKind, Option<usize>), Refusal>
     requires { (length text.now ≤ text_limit) × (is_utf8 text.now ≡ true) }
-    ensures result_value { status_said result ≡ answer_of (status_outcome (of_words (words (decode text.now)))) (length out.old) }
+    ensures result_value { result ≡ answer_of (status_outcome (of_words (words (decode text.now)))) (length out.old) }
     ensures out_after { out.new ≡ written_of (status_outcome (of_words (words (decode text.now)))) out.old }
 {
     if text.len() <= MEDIUM {
-        let mut joined = [0u8; MEDIUM];
-        return read_status(text, &mut joined, out);
+        return read_status_in::<MEDIUM>(text, out);
     }
-    let mut joined = [0u8; TEXT_LIMIT];
-    read_status(text, &mut joined, out)
+    read_status_in::<TEXT_LIMIT>(text, out)
 }
 
 impl Status {
     // The status that a text reads as: 10, 11 and 9, then as `Expr::parse` reads the words after the status word; a word alone needs no room.
-    pub fn parse(text: &[u8], out: &mut [u8]) -> StatusAnswer
-        ensures result_value { status_said result ≡ answer_of (status_answer text.now) (length out.old) }
+    pub fn parse(text: &[u8], out: &mut [u8]) -> Result<(StatusKind, Option<usize>), Refusal>
+        ensures result_value { result ≡ answer_of (status_answer text.now) (length out.old) }
         ensures out_after { out.new ≡ written_of (status_answer text.now) out.old }
     {
-        match utf8::admit(text, TEXT_LIMIT) {
-            Admitted::Refused(why) => StatusAnswer::Refused(why),
-            Admitted::Fine => scan_status(text, out),
-        }
+        utf8::admit(text, TEXT_LIMIT)?;
+        scan_status(text, out)
     }
 }

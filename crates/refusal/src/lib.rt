@@ -5,7 +5,7 @@
 ghost use Rattle.std.specs.Prelude.{◌≡◌};
 ghost use Rattle.refusal.specs.Refusals.{number_of};
 
-#[derive(Clone, Copy)]
+#[derive(Clone, Copy, Debug, PartialEq, Eq)]
 pub enum Refusal {
     // A character that is no citation, operator, parenthesis or white space.
     Stray,
@@ -43,11 +43,11 @@ pub enum Refusal {
     NotAPaket,
 }
 
-impl Refusal {
-    pub fn number(self) -> u8
-        ensures { result ≡ number_of self }
-    {
-        match self {
+impl From<Refusal> for u8 {
+    ghost from_gives = { λ why number. number ≡ number_of why };
+
+    fn from(why: Refusal) -> u8 {
+        match why {
             Refusal::Stray => 1,
             Refusal::Unterminated => 2,
             Refusal::EmptyCondition => 3,

@@ -20,7 +20,3 @@ Fits s = length s ≤ 32768
 -- just that has room
 abbrev pub Scratch : List ℕ → Type 0
 Scratch s = length s ≡ 32768
-
--- there is scratch for three fields, and the longest answer fits
-abbrev pub Ready : List ℕ → List ℕ → List ℕ → List ℕ → Type 0
-Ready first second third out = Scratch first × (Scratch second × (Scratch third × HasRoom out))

@@ -5,30 +5,28 @@ ghost use Rattle.replay.specs.Rooms.{HasRoom, Fits};
 use citation::Paket;
 use fields::{put_byte, put_text};
 use refusal::Refusal;
-use tree::{CITATION_LIMIT, CitedText};
+use tree::CITATION_LIMIT;
 
-// What a request is answered: a number, a letter, a Paket's bounds, the first bytes of its text, or why not.
+// What a request is answered: a number, a letter, a Paket's bounds, or the first bytes of its text.
 #[derive(Clone, Copy)]
 pub enum Said {
-    NoRequest,
+    // The answer `ok`, no refusal's counterpart.
     Fine,
     Figure(u64),
     Letter(u8),
     Bounds(Paket),
     Name(usize),
-    Refused(Refusal),
 }
 
-// What a request with a lent buffer is answered before the buffer.
+// What a request with a lent buffer is answered before the buffer; a status word by its code, since a line shows that.
 #[derive(Clone, Copy)]
 pub enum Lent {
-    NotLent,
     Done(u64),
     Alone(u8),
     Stated { code: u8, length: usize },
-    Refused(Refusal),
 }
 
+// A number's digits at a place. Not by `write!`, which does not say how many bytes it writes.
 fn decimal(out: &mut [u8], at: usize, n: u64) -> usize
     requires { at + 20 ≤ length out.old }
     ensures { result ≤ at + 20 }
@@ -103,7 +101,7 @@ fn refused(out: &mut [u8], why: Refusal) -> usize
     requires { HasRoom out.old }
     ensures { result ≤ length out.new }
 {
-    let at = worded(out, b"refused", why.number() as u64);
+    let at = worded(out, b"refused", u64::from(u8::from(why)));
     put_byte(out, at, b'\n')
 }
 
@@ -112,7 +110,7 @@ fn turned_back(out: &mut [u8], why: Refusal, buf: &[u8]) -> usize
     requires { HasRoom out.old × Fits buf.now }
     ensures { result ≤ length out.new }
 {
-    let at = worded(out, b"refused", why.number() as u64);
+    let at = worded(out, b"refused", u64::from(u8::from(why)));
     with_field(out, at, buf)
 }
 
@@ -130,7 +128,7 @@ fn alone(out: &mut [u8], code: u8, buf: &[u8]) -> usize
     requires { HasRoom out.old × Fits buf.now }
     ensures { result ≤ length out.new }
 {
-    let at = worded(out, b"ok", code as u64);
+    let at = worded(out, b"ok", u64::from(code));
     let end = put_text(b" none", out, at);
     with_field(out, end, buf)
 }
@@ -140,7 +138,7 @@ fn stated(out: &mut [u8], code: u8, n: usize, buf: &[u8]) -> usize
     requires { HasRoom out.old × Fits buf.now }
     ensures { result ≤ length out.new }
 {
-    let at = worded(out, b"ok", code as u64);
+    let at = worded(out, b"ok", u64::from(code));
     let end = number(out, at, n as u64);
     with_field(out, end, buf)
 }
@@ -151,8 +149,8 @@ fn bounds(out: &mut [u8], p: Paket) -> usize
     ensures { result ≤ length out.new }
 {
     let low = worded(out, b"ok", p.low);
-    let mark = number(out, low, p.bounded as u64);
-    let high = number(out, mark, p.high);
+    let mark = number(out, low, u64::from(p.high.is_some()));
+    let high = number(out, mark, p.high.unwrap_or(0));
     put_byte(out, high, b'\n')
 }
 
@@ -166,32 +164,30 @@ fn named(out: &mut [u8], text: &[u8], n: usize) -> usize
 }
 
 // The answer to a request about a text.
-pub fn answer(out: &mut [u8], said: Said, text: &[u8]) -> usize
+pub fn answer(out: &mut [u8], said: Result<Said, Refusal>, text: &[u8]) -> usize
     requires { HasRoom out.old × Fits text.now }
     ensures { result ≤ length out.new }
 {
     match said {
-        Said::NoRequest => bad_request(out),
-        Said::Fine => fine(out),
-        Said::Figure(n) => figure(out, n),
-        Said::Letter(b) => letter(out, b),
-        Said::Bounds(p) => bounds(out, p),
-        Said::Name(n) => named(out, text, n),
-        Said::Refused(why) => refused(out, why),
+        Ok(Said::Fine) => fine(out),
+        Ok(Said::Figure(n)) => figure(out, n),
+        Ok(Said::Letter(b)) => letter(out, b),
+        Ok(Said::Bounds(p)) => bounds(out, p),
+        Ok(Said::Name(n)) => named(out, text, n),
+        Err(why) => refused(out, why),
     }
 }
 
 // The answer to a request that lends a buffer.
-pub fn answer_lent(out: &mut [u8], said: Lent, buf: &[u8]) -> usize
+pub fn answer_lent(out: &mut [u8], said: Result<Lent, Refusal>, buf: &[u8]) -> usize
     requires { HasRoom out.old × Fits buf.now }
     ensures { result ≤ length out.new }
 {
     match said {
-        Lent::NotLent => bad_request(out),
-        Lent::Done(n) => done(out, n, buf),
-        Lent::Alone(code) => alone(out, code, buf),
-        Lent::Stated { code, length } => stated(out, code, length, buf),
-        Lent::Refused(why) => turned_back(out, why, buf),
+        Ok(Lent::Done(n)) => done(out, n, buf),
+        Ok(Lent::Alone(code)) => alone(out, code, buf),
+        Ok(Lent::Stated { code, length }) => stated(out, code, length, buf),
+        Err(why) => turned_back(out, why, buf),
     }
 }
 
@@ -200,21 +196,14 @@ fn put_cited(tree: &[u8], start: usize, size: usize, out: &mut [u8], at: usize) 
     requires { HasRoom out.old × (Fits tree.now × (at < 65600)) }
     ensures { result < 65600 }
 {
-    if tree.len() < start {
+    let Some(part) = tree.get(start..).and_then(|rest| rest.get(..size)) else {
+        return at;
+    };
+    if super::ROOM - at < 2 * part.len() + 3 {
         return at;
     }
-    if tree.len() - start < size {
-        return at;
-    }
-    if super::ROOM - at < 2 * size + 3 {
-        return at;
-    }
-    let end = start + size;
-    if at == 0 {
-        return protocol::put_hex(out, 0, &tree[start..end]);
-    }
-    let from = put_byte(out, at, b',');
-    protocol::put_hex(out, from, &tree[start..end])
+    let from = if at == 0 { 0 } else { put_byte(out, at, b',') };
+    protocol::put_hex(out, from, part)
 }
 
 // The texts that a tree cites.
@@ -223,20 +212,12 @@ pub fn texts(tree: &[u8], out: &mut [u8]) -> usize
     ensures { result ≤ length out.new }
 {
     let mut at = 0;
-    let mut n = 0;
-    while n < CITATION_LIMIT {
+    for n in 0..CITATION_LIMIT {
         match tree::cited(tree, n) {
-            CitedText::Refused(why) => {
-                return refused(out, why);
-            }
-            CitedText::Absent => {
-                return put_byte(out, at, b'\n');
-            }
-            CitedText::At { start, size } => {
-                at = put_cited(tree, start, size, out, at);
-            }
+            Err(why) => return refused(out, why),
+            Ok(None) => break,
+            Ok(Some((start, size))) => at = put_cited(tree, start, size, out, at),
         }
-        n += 1;
     }
     put_byte(out, at, b'\n')
 }

@@ -32,12 +32,11 @@
 
 #![tactic(auto)]
 
-ghost use Rattle.std.specs.Prelude.{◌≡◌, ◌+◌, ◌≤◌, ◌<◌, length};
-ghost use Rattle.replay.specs.Rooms.{room, HasRoom, Ready};
-ghost use Rattle.replay.specs.Held.{Held};
+ghost use Rattle.std.specs.Prelude.{◌≡◌, ◌+◌, ◌≤◌};
+ghost use Rattle.replay.specs.Rooms.{room};
 
-use requests::respond;
-use std::io::{Stdin, Stdout};
+use requests::{Fields, respond};
+use std::io::{Read, Write};
 
 mod answers;
 mod requests;
@@ -57,204 +56,100 @@ const HELD: usize = 65537;
 // The output has room for two answers.
 const OUT: usize = 131200;
 
-// How many bytes of the present line are held, and how many bytes of output wait.
-#[derive(Clone, Copy)]
-struct State {
+// What is held between two reads: the present line, room for its fields, and the answers that wait to be written.
+#[derive(Drop)]
+struct Session {
+    line: [u8; HELD],
     len: usize,
+    fields: Fields,
+    out: [u8; OUT],
     waiting: usize,
+    ghost held: { len ≤ 65537 },
+    ghost waits: { waiting ≤ 131200 },
 }
 
-// A state, and whether there was input.
-#[derive(Clone, Copy)]
-struct Turn {
-    more: bool,
-    state: State,
-}
+impl Session {
+    fn new() -> Session {
+        Session {
+            line: [0; HELD],
+            len: 0,
+            fields: Fields::new(),
+            out: [0; OUT],
+            waiting: 0,
+        }
+    }
 
-// Writes what waits.
-fn written(to: Stdout, s: State, out: &[u8]) -> State
-    requires { s.waiting ≤ length out.now }
-    ensures { (result.len ≡ s.len) × (result.waiting ≡ 0) }
-{
-    let waiting = s.waiting;
-    console::write_all(to, text::head(out, waiting));
-    State {
-        len: s.len,
-        waiting: 0,
+    // Writes what waits.
+    fn flush<W: Write>(&mut self, to: &mut W)
+        ensures { self.new.waiting ≡ 0 }
+    {
+        console::write_all(to, &self.out[..self.waiting]);
+        self.waiting = 0;
+    }
+
+    // Writes what waits where there is no room for an answer behind it.
+    fn make_room<W: Write>(&mut self, to: &mut W)
+        ensures { self.new.waiting + room ≤ 131200 }
+    {
+        if OUT - self.waiting < ROOM {
+            self.flush(to);
+        }
+    }
+
+    // Answers the line that is held.
+    fn end_line<W: Write>(&mut self, to: &mut W) {
+        self.make_room(to);
+        let from = self.waiting;
+        let n = respond(
+            &self.line[..self.len],
+            &mut self.fields,
+            &mut self.out[from..],
+        );
+        self.waiting = from + n;
+        self.len = 0;
+    }
+
+    // One byte more. Of a line that is too long the first bytes are held.
+    fn feed<W: Write>(&mut self, b: u8, to: &mut W) {
+        if b == b'\n' {
+            self.end_line(to);
+        } else if self.len < HELD {
+            self.line[self.len] = b;
+            self.len += 1;
+        }
+    }
+
+    // So many bytes more, and the answers to the lines that they end.
+    fn feed_all<W: Write>(&mut self, input: &[u8], to: &mut W) {
+        for b in input {
+            self.feed(*b, to);
+        }
+        self.flush(to);
+    }
+
+    // The end of the input ends its last line too.
+    fn end<W: Write>(&mut self, to: &mut W) {
+        if self.len > 0 {
+            self.end_line(to);
+            self.flush(to);
+        }
     }
 }
 
-// Writes what waits where there is no room for an answer behind it.
-fn with_room(to: Stdout, s: State, out: &[u8]) -> State
-    requires { (s.waiting ≤ length out.now) × HasRoom out.now }
-    ensures { (result.len ≡ s.len) × (result.waiting + room ≤ length out.now) }
-{
-    let waiting = s.waiting;
-    if ROOM <= out.len() - waiting {
-        return s;
+// Nothing says that the input ends, so the turns are counted, up to a number that no run uses up.
+fn answer_all<R: Read, W: Write>(from: &mut R, to: &mut W) {
+    let mut session = Session::new();
+    let mut input = [0u8; 65536];
+    for _ in 0..u64::MAX {
+        let n = console::read_some(from, &mut input);
+        if n == 0 {
+            break;
+        }
+        session.feed_all(&input[..n], to);
     }
-    written(to, s, out)
-}
-
-fn end_line(
-    to: Stdout,
-    s: State,
-    line: &[u8],
-    first: &mut [u8],
-    second: &mut [u8],
-    third: &mut [u8],
-    out: &mut [u8],
-) -> State
-    requires { Ready first.old second.old third.old out.old × Held s line.now out.old }
-    ensures { Held result line.now out.new }
-{
-    let state = with_room(to, s, out);
-    let len = state.len;
-    let from = state.waiting;
-    let n = respond(
-        text::head(line, len),
-        first,
-        second,
-        third,
-        &mut out[from..],
-    );
-    State {
-        len: 0,
-        waiting: from + n,
-    }
-}
-
-// One byte more is held, while there is room.
-fn keep(b: u8, s: State, line: &mut [u8]) -> State
-    requires { s.len ≤ length line.old }
-    ensures { (result.len ≤ length line.new) × (result.waiting ≡ s.waiting) }
-{
-    let len = s.len;
-    if len < line.len() {
-        line[len] = b;
-        return State {
-            len: len + 1,
-            waiting: s.waiting,
-        };
-    }
-    s
-}
-
-fn take_byte(
-    to: Stdout,
-    b: u8,
-    s: State,
-    line: &mut [u8],
-    first: &mut [u8],
-    second: &mut [u8],
-    third: &mut [u8],
-    out: &mut [u8],
-) -> State
-    requires { Ready first.old second.old third.old out.old × Held s line.old out.old }
-    ensures { Held result line.new out.new }
-{
-    if b == b'\n' {
-        return end_line(to, s, line, first, second, third, out);
-    }
-    keep(b, s, line)
-}
-
-fn take_input(
-    to: Stdout,
-    input: &[u8],
-    s: State,
-    line: &mut [u8],
-    first: &mut [u8],
-    second: &mut [u8],
-    third: &mut [u8],
-    out: &mut [u8],
-) -> State
-    requires { Ready first.old second.old third.old out.old × Held s line.old out.old }
-    ensures { Held result line.new out.new }
-{
-    let mut state = s;
-    let mut i = 0;
-    while i < input.len() {
-        state = take_byte(to, input[i], state, line, first, second, third, out);
-        i += 1;
-    }
-    state
-}
-
-// One read, and the answers to the lines that it ends.
-fn read_some(
-    from: Stdin,
-    to: Stdout,
-    s: State,
-    input: &mut [u8],
-    line: &mut [u8],
-    first: &mut [u8],
-    second: &mut [u8],
-    third: &mut [u8],
-    out: &mut [u8],
-) -> Turn
-    requires { Ready first.old second.old third.old out.old × Held s line.old out.old }
-    ensures { Held result.state line.new out.new }
-{
-    let n = console::read_some(from, input);
-    let state = take_input(to, &input[..n], s, line, first, second, third, out);
-    Turn {
-        more: 0 < n,
-        state: written(to, state, out),
-    }
-}
-
-// How many turns are left: none where the input has ended.
-fn left(turns: u64, more: bool) -> u64
-    requires { 0 < turns }
-    ensures { result < turns }
-{
-    if more { turns - 1 } else { 0 }
-}
-
-// Nothing says that the input ends, so the turns are counted down from a number that no run uses up.
-fn answer_all(
-    from: Stdin,
-    to: Stdout,
-    input: &mut [u8],
-    line: &mut [u8],
-    first: &mut [u8],
-    second: &mut [u8],
-    third: &mut [u8],
-    out: &mut [u8],
-)
-    requires { Ready first.old second.old third.old out.old }
-{
-    let mut state = State { len: 0, waiting: 0 };
-    let mut turns = u64::MAX;
-    while turns > 0 {
-        let t = read_some(from, to, state, input, line, first, second, third, out);
-        state = t.state;
-        turns = left(turns, t.more);
-    }
-    if state.len > 0 {
-        let last = end_line(to, state, line, first, second, third, out);
-        written(to, last, out);
-    }
+    session.end(to);
 }
 
 fn main(rt: HostRuntime) {
-    let from = rt.stdin();
-    let to = rt.stdout();
-    let mut input = [0u8; 65536];
-    let mut line = [0u8; HELD];
-    let mut first = [0u8; BYTES];
-    let mut second = [0u8; BYTES];
-    let mut third = [0u8; BYTES];
-    let mut out = [0u8; OUT];
-    answer_all(
-        from,
-        to,
-        &mut input,
-        &mut line,
-        &mut first,
-        &mut second,
-        &mut third,
-        &mut out,
-    );
+    answer_all(&mut rt.stdin(), &mut rt.stdout());
 }

@@ -1,9 +1,10 @@
 -- Which citations presence evaluates: all but those in dropped operands. The others' answers change nothing. Assumes nothing.
-use Rattle.std.specs.Prelude.{◌≡◌, refl, List, [], ◌∷◌, Bool, true, false, not, ◌&&◌, ℕ, zero, suc, ◌+◌, ◌≤◌, eqb, leb, length, get_or, set}
+use Rattle.std.specs.Prelude.{◌≡◌, refl, List, [], ◌∷◌, Bool, true, false, not, ◌&&◌, ℕ, zero, suc, ◌+◌, ◌≤◌, eqb, leb, length, get_or, set, Result, Ok}
 use Rattle.std.proofs.Common.{sym, ap, ◌∙◌, true≢false, length-set, eq-eqb, le-leb}
 use Rattle.std.proofs.Math.Bool.{or-true}
 use Rattle.laws.specs.Tests.{and_both, and_intro}
-use Rattle.refusal.specs.Result.{Result, ok, then}
+use Rattle.refusal.specs.declared.Refusal.{Refusal}
+use Rattle.refusal.specs.Result.{then}
 use Rattle.text.specs.Bytes.{all}
 use Rattle.citation.specs.declared.Truth.{Truth}
 use Rattle.grammar.specs.Expr.{And, Or, Xor, Expr, Exprs, cite, Then, join, none, more, ◌◂◌, count}
@@ -24,12 +25,12 @@ pub rest_evaluated : (k : ℕ) (choosing : Bool) (n : ℕ) (e : Expr) (es : Expr
 unfolding evaluates_of
 rest_evaluated k choosing n e es h = rw h (or-true (not (choosing && dropped e) && evaluates k n e))
 
-module _ (a b : ℕ → Result Truth) where
+module _ (a b : ℕ → Result Truth Refusal) where
   -- the oracles agree on what is evaluated
   abbrev Agree : (ℕ → Bool) → Type 0
   Agree p = (k : ℕ) → p k ≡ true → a k ≡ b k
 
-  value_agrees : (d : Bool) (v v' : Result Truth) (vs vs' : Result (List Truth)) → (d ≡ false → v ≡ v') → vs ≡ vs' → valued d v vs ≡ valued d v' vs'
+  value_agrees : (d : Bool) (v v' : Result Truth Refusal) (vs vs' : Result (List Truth) Refusal) → (d ≡ false → v ≡ v') → vs ≡ vs' → valued d v vs ≡ valued d v' vs'
   value_agrees true v v' vs vs' f g = g
   value_agrees false v v' vs vs' f g = rw (f refl, g)
 
@@ -71,7 +72,7 @@ fit_set e answers k x h t =
     (rw (length-set answers k x) s.0) (all_set (λ b. leb b failed) answers k x (le-leb x failed h) s.1)
 
 -- the answer to a dropped citation does not matter, as long as it is one of the five
-pub dropped_free : (tree answers : List ℕ) (e : Expr) (k x : ℕ) → tree_of tree ≡ ok e → answers_fit e answers ≡ true
+pub dropped_free : (tree answers : List ℕ) (e : Expr) (k x : ℕ) → tree_of tree ≡ Ok e → answers_fit e answers ≡ true
     → evaluates k 0 e ≡ false → x ≤ failed → eval_answer tree (set answers k x) ≡ eval_answer tree answers
 unfolding eval_answer then
 dropped_free tree answers e k x t f d h =

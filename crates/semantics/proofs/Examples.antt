@@ -1,7 +1,8 @@
 -- Worked cases of presence, format truth, violations and package rows, one list and one proof for each. Assumes nothing.
-use Rattle.std.specs.Prelude.{◌≡◌, refl, List, [], ◌∷◌, ◌++◌, ℕ, not, eqb, replicate}
+use Rattle.std.specs.Prelude.{◌≡◌, refl, List, [], ◌∷◌, ◌++◌, ℕ, not, eqb, replicate, Result, Ok, Err}
 use Prim.Native.String.{String}
-use Rattle.refusal.specs.Result.{Result, ok, refuse, then, map_ok}
+use Rattle.refusal.specs.declared.Refusal.{Refusal}
+use Rattle.refusal.specs.Result.{then, map_ok}
 use Rattle.refusal.specs.declared.Refusal.TheVariants.{ChoiceOverNeutral, FailedAnswer, TooLong, NotUtf8, NoRoom, NotATree, WrongAnswers}
 use Rattle.text.specs.Digits.{number_up_to}
 use Rattle.utf8.specs.Utf8.{is_utf8, decode, encode_char, lead_of}
@@ -44,38 +45,38 @@ abbrev xor3 : String → String → String → Expr
 xor3 x y z = join Xor (c x ◂ c y ◂ c z ◂ none)
 
 -- an expression, answer bytes, and what `eval` says
-abbrev cases : List (Expr × List ℕ × Result Truth)
+abbrev cases : List (Expr × List ℕ × Result Truth Refusal)
 cases =
-    (c "1", [], refuse WrongAnswers)
-    ∷ (c "1", 5 ∷ [], refuse WrongAnswers)
-    ∷ (c "1", 4 ∷ [], refuse FailedAnswer)
-    ∷ (and2 "500" "1", 4 ∷ 2 ∷ [], refuse FailedAnswer)
-    ∷ (and2 "1" "2", 0 ∷ 4 ∷ [], refuse FailedAnswer)
-    ∷ (and2 "1" "931", 2 ∷ 3 ∷ [], ok True)
-    ∷ (and2 "931" "932", 3 ∷ 3 ∷ [], ok Neutral)
-    ∷ (or2 "500" "1", 4 ∷ 2 ∷ [], ok True)
-    ∷ (or2 "500" "501", 4 ∷ 4 ∷ [], ok Neutral)
-    ∷ (or2 "1" "931", 2 ∷ 3 ∷ [], refuse ChoiceOverNeutral)
-    ∷ (or2 "1" "931", 4 ∷ 4 ∷ [], refuse ChoiceOverNeutral)
-    ∷ (or2 "1" "931", 4 ∷ 5 ∷ [], refuse WrongAnswers)
-    ∷ (or2 "1" "900", 2 ∷ 3 ∷ [], refuse ChoiceOverNeutral)
-    ∷ (or2 "1" "2P0..1", 0 ∷ 1 ∷ [], ok Unknown)
-    ∷ (join Or (and2 "500" "931" ◂ c "1" ◂ none), 3 ∷ 3 ∷ 2 ∷ [], refuse ChoiceOverNeutral)
-    ∷ (join Or (and2 "500" "501" ◂ c "1" ◂ none), 4 ∷ 4 ∷ 0 ∷ [], ok False)
-    ∷ (join And (c "1" ◂ or2 "1" "931" ◂ none), 4 ∷ 2 ∷ 2 ∷ [], refuse FailedAnswer)
-    ∷ (xor3 "1" "2" "3", 2 ∷ 2 ∷ 1 ∷ [], ok False)
-    ∷ (xor3 "1" "2" "3", 2 ∷ 2 ∷ 2 ∷ [], ok False)
-    ∷ (xor3 "1" "2" "3", 2 ∷ 2 ∷ 4 ∷ [], refuse FailedAnswer)
-    ∷ (xor3 "1" "2" "3", 2 ∷ 0 ∷ 1 ∷ [], ok Unknown)
-    ∷ (xor3 "1" "2" "3", 0 ∷ 2 ∷ 3 ∷ [], ok True)
-    ∷ (xor3 "1" "2" "3", 0 ∷ 3 ∷ 0 ∷ [], ok False)
+    (c "1", [], Err WrongAnswers)
+    ∷ (c "1", 5 ∷ [], Err WrongAnswers)
+    ∷ (c "1", 4 ∷ [], Err FailedAnswer)
+    ∷ (and2 "500" "1", 4 ∷ 2 ∷ [], Err FailedAnswer)
+    ∷ (and2 "1" "2", 0 ∷ 4 ∷ [], Err FailedAnswer)
+    ∷ (and2 "1" "931", 2 ∷ 3 ∷ [], Ok True)
+    ∷ (and2 "931" "932", 3 ∷ 3 ∷ [], Ok Neutral)
+    ∷ (or2 "500" "1", 4 ∷ 2 ∷ [], Ok True)
+    ∷ (or2 "500" "501", 4 ∷ 4 ∷ [], Ok Neutral)
+    ∷ (or2 "1" "931", 2 ∷ 3 ∷ [], Err ChoiceOverNeutral)
+    ∷ (or2 "1" "931", 4 ∷ 4 ∷ [], Err ChoiceOverNeutral)
+    ∷ (or2 "1" "931", 4 ∷ 5 ∷ [], Err WrongAnswers)
+    ∷ (or2 "1" "900", 2 ∷ 3 ∷ [], Err ChoiceOverNeutral)
+    ∷ (or2 "1" "2P0..1", 0 ∷ 1 ∷ [], Ok Unknown)
+    ∷ (join Or (and2 "500" "931" ◂ c "1" ◂ none), 3 ∷ 3 ∷ 2 ∷ [], Err ChoiceOverNeutral)
+    ∷ (join Or (and2 "500" "501" ◂ c "1" ◂ none), 4 ∷ 4 ∷ 0 ∷ [], Ok False)
+    ∷ (join And (c "1" ◂ or2 "1" "931" ◂ none), 4 ∷ 2 ∷ 2 ∷ [], Err FailedAnswer)
+    ∷ (xor3 "1" "2" "3", 2 ∷ 2 ∷ 1 ∷ [], Ok False)
+    ∷ (xor3 "1" "2" "3", 2 ∷ 2 ∷ 2 ∷ [], Ok False)
+    ∷ (xor3 "1" "2" "3", 2 ∷ 2 ∷ 4 ∷ [], Err FailedAnswer)
+    ∷ (xor3 "1" "2" "3", 2 ∷ 0 ∷ 1 ∷ [], Ok Unknown)
+    ∷ (xor3 "1" "2" "3", 0 ∷ 2 ∷ 3 ∷ [], Ok True)
+    ∷ (xor3 "1" "2" "3", 0 ∷ 3 ∷ 0 ∷ [], Ok False)
     ∷ []
 
-abbrev said : List (Expr × List ℕ × Result Truth) → List (Result Truth)
+abbrev said : List (Expr × List ℕ × Result Truth Refusal) → List (Result Truth Refusal)
 said [] = []
 said (x ∷ xs) = eval_answer (bytes_of x.0) x.1 ∷ said xs
 
-abbrev wanted : List (Expr × List ℕ × Result Truth) → List (Result Truth)
+abbrev wanted : List (Expr × List ℕ × Result Truth Refusal) → List (Result Truth Refusal)
 wanted [] = []
 wanted (x ∷ xs) = x.2 ∷ wanted xs
 
@@ -84,7 +85,7 @@ unfolding eval_answer then map_ok tree_of is_tree head_ok tiles size_of rows_fro
 cases_hold = refl
 
 -- no bytes are no tree, whatever the answers
-no-tree : (answers : List ℕ) → eval_answer [] answers ≡ refuse NotATree
+no-tree : (answers : List ℕ) → eval_answer [] answers ≡ Err NotATree
 unfolding eval_answer then tree_of is_tree head_ok
 no-tree answers = refl
 
@@ -133,29 +134,29 @@ unfolding truth_with violations_with violated and_rule or_rule any citations
 numbers_go_on = (refl, refl, refl, refl)
 
 -- the violations into a buffer: their count, two bytes each, and the old rest; 14 and the old bytes where it is too short
-sample_written : (answer_of (violations_answer (bytes_of sample) (bytes "0")) 5 ≡ ok 2)
+sample_written : (answer_of (violations_answer (bytes_of sample) (bytes "0")) 5 ≡ Ok 2)
     × (written_of (violations_answer (bytes_of sample) (bytes "0")) (replicate 5 9) ≡ 1 ∷ 0 ∷ 3 ∷ 0 ∷ 9 ∷ [])
-    × (answer_of (violations_answer (bytes_of sample) (bytes "0")) 3 ≡ refuse NoRoom)
+    × (answer_of (violations_answer (bytes_of sample) (bytes "0")) 3 ≡ Err NoRoom)
     × (written_of (violations_answer (bytes_of sample) (bytes "0")) (replicate 3 9) ≡ replicate 3 9)
 unfolding answer_of written_of violations_answer then admitted tree_of is_tree head_ok tiles size_of rows_from cited_from rows_ok row_ok cites_ok citable is_utf8 decode lead_of blank holds is_white tree_at forest_at first build place made firsts rests encode_char bytes_of packed head_bytes row_bytes cite_bytes two_bytes rows node op_kind many citations concat number_bytes truth_with cited_truth violations_with violated and_rule or_rule any kind_of kind_of_number number_up_to verdict rule_of judged against integer_of fraction_of
 sample_written = (refl, refl, refl, refl)
 
 -- an expression, answer bytes, a value, and what `eval_and_truth` says: 16 before the value's 10 and 11, and these before 7 and 8
-abbrev both : List (Expr × List ℕ × List ℕ × Result (Truth × Truth))
+abbrev both : List (Expr × List ℕ × List ℕ × Result (Truth × Truth) Refusal)
 both =
-    (c "1", 4 ∷ [], 0xFF ∷ [], refuse NotUtf8)
-    ∷ (c "1", 5 ∷ [], 0xFF ∷ [], refuse WrongAnswers)
-    ∷ (c "1", 4 ∷ [], bytes "0", refuse FailedAnswer)
-    ∷ (or2 "1" "931", 2 ∷ 3 ∷ [], replicate 1025 0xFF, refuse TooLong)
-    ∷ (or2 "1" "931", 2 ∷ 3 ∷ [], bytes "0", refuse ChoiceOverNeutral)
-    ∷ (sample, 3 ∷ 3 ∷ 2 ∷ 3 ∷ [], bytes "0", ok (True, False))
+    (c "1", 4 ∷ [], 0xFF ∷ [], Err NotUtf8)
+    ∷ (c "1", 5 ∷ [], 0xFF ∷ [], Err WrongAnswers)
+    ∷ (c "1", 4 ∷ [], bytes "0", Err FailedAnswer)
+    ∷ (or2 "1" "931", 2 ∷ 3 ∷ [], replicate 1025 0xFF, Err TooLong)
+    ∷ (or2 "1" "931", 2 ∷ 3 ∷ [], bytes "0", Err ChoiceOverNeutral)
+    ∷ (sample, 3 ∷ 3 ∷ 2 ∷ 3 ∷ [], bytes "0", Ok (True, False))
     ∷ []
 
-abbrev both_said : List (Expr × List ℕ × List ℕ × Result (Truth × Truth)) → List (Result (Truth × Truth))
+abbrev both_said : List (Expr × List ℕ × List ℕ × Result (Truth × Truth) Refusal) → List (Result (Truth × Truth) Refusal)
 both_said [] = []
 both_said (x ∷ xs) = eval_and_truth_answer (bytes_of x.0) x.1 x.2 ∷ both_said xs
 
-abbrev both_wanted : List (Expr × List ℕ × List ℕ × Result (Truth × Truth)) → List (Result (Truth × Truth))
+abbrev both_wanted : List (Expr × List ℕ × List ℕ × Result (Truth × Truth) Refusal) → List (Result (Truth × Truth) Refusal)
 both_wanted [] = []
 both_wanted (x ∷ xs) = x.3 ∷ both_wanted xs
 

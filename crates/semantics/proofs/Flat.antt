@@ -1,12 +1,13 @@
 -- A tree and its flat tree say the same. Assumes nothing.
-use Rattle.std.specs.Prelude.{◌≡◌, Bool, true, ℕ, ◌+◌, length}
+use Rattle.std.specs.Prelude.{◌≡◌, Bool, true, ℕ, ◌+◌, length, Result, Ok, Err}
 use Rattle.std.proofs.Math.Path.{refl}
 use Rattle.std.proofs.Common.{sym, ◌∙◌}
 use mathlib.Core.List.{List, ◌++◌, append_assoc, append-nil}
 use Rattle.std.proofs.Math.Bool.{false}
 use Rattle.std.proofs.Math.Nat.{add_assoc, add-zero}
 use Rattle.std.proofs.Math.ListN.{length-append}
-use Rattle.refusal.specs.Result.{Result, ok, refused, map_ok}
+use Rattle.refusal.specs.declared.Refusal.{Refusal}
+use Rattle.refusal.specs.Result.{map_ok}
 use Rattle.citation.specs.declared.Truth.{Truth}
 use Rattle.citation.specs.declared.Truth.TheVariants.{Neutral}
 use Rattle.grammar.specs.Expr.{And, Or, Xor, Expr, Exprs, cite, Then, join, none, more, ◌◂◌, ◌⧺◌, citations, citations_of, count}
@@ -21,33 +22,33 @@ use Rattle.semantics.proofs.Pairs.{rule_none, rule_more, and_assoc, and_neutral,
 use Rattle.semantics.specs.Packages.{pakete}
 
 -- Then and And of two answers: the first refusal met, else the truths joined. What a Then inside a Then says counts as what its operands say, since this is associative
-both_said : Result Truth → Result Truth → Result Truth
-both_said (ok a) (ok b) = ok (pair And a b)
-both_said (ok a) (refused k) = refused k
-both_said (refused k) b = refused k
+both_said : Result Truth Refusal → Result Truth Refusal → Result Truth Refusal
+both_said (Ok a) (Ok b) = Ok (pair And a b)
+both_said (Ok a) (Err k) = Err k
+both_said (Err k) b = Err k
 
-said_assoc : (a b c : Result Truth) → both_said (both_said a b) c ≡ both_said a (both_said b c)
+said_assoc : (a b c : Result Truth Refusal) → both_said (both_said a b) c ≡ both_said a (both_said b c)
 unfolding both_said
-said_assoc (ok a) (ok b) (ok c) = rw (and_assoc a b c)
-said_assoc (ok a) (ok b) (refused k) = refl
-said_assoc (ok a) (refused k) c = refl
-said_assoc (refused k) b c = refl
+said_assoc (Ok a) (Ok b) (Ok c) = rw (and_assoc a b c)
+said_assoc (Ok a) (Ok b) (Err k) = refl
+said_assoc (Ok a) (Err k) c = refl
+said_assoc (Err k) b c = refl
 
-said_neutral : (a : Result Truth) → both_said a (ok Neutral) ≡ a
+said_neutral : (a : Result Truth Refusal) → both_said a (Ok Neutral) ≡ a
 unfolding both_said
-said_neutral (ok a) = rw (and_neutral a)
-said_neutral (refused k) = refl
+said_neutral (Ok a) = rw (and_neutral a)
+said_neutral (Err k) = refl
 
-neutral_said : (a : Result Truth) → both_said (ok Neutral) a ≡ a
+neutral_said : (a : Result Truth Refusal) → both_said (Ok Neutral) a ≡ a
 unfolding both_said
-neutral_said (ok a) = rw (neutral_and a)
-neutral_said (refused k) = refl
+neutral_said (Ok a) = rw (neutral_and a)
+neutral_said (Err k) = refl
 
-map-before : (v : Result Truth) (vs : Result (List Truth)) → map_ok and_rule (before v vs) ≡ both_said v (map_ok and_rule vs)
+map-before : (v : Result Truth Refusal) (vs : Result (List Truth) Refusal) → map_ok and_rule (before v vs) ≡ both_said v (map_ok and_rule vs)
 unfolding map_ok before both_said
-map-before (ok v) (ok vs) = rw (rule_more And v vs)
-map-before (ok v) (refused k) = refl
-map-before (refused k) vs = refl
+map-before (Ok v) (Ok vs) = rw (rule_more And v vs)
+map-before (Ok v) (Err k) = refl
+map-before (Err k) vs = refl
 
 count-operands : (e : Expr) → length (citations_of (operands e)) ≡ count e
 unfolding citations_of operands
@@ -65,15 +66,15 @@ unfolding some_free_with flats
 free_flats none = refl
 free_flats (more e es) = rw (citations_flat e, free_flats es)
 
-module _ (oracle : ℕ → Result Truth) where
-  all_of : ℕ → Exprs → Result Truth
+module _ (oracle : ℕ → Result Truth Refusal) where
+  all_of : ℕ → Exprs → Result Truth Refusal
   all_of n es = map_ok and_rule (values oracle false n es)
 
   all_more : (n : ℕ) (e : Expr) (es : Exprs) → all_of n (e ◂ es) ≡ both_said (presence oracle n e) (all_of (n + count e) es)
   unfolding all_of values_with
   all_more n e es = map-before (presence oracle n e) (values oracle false (n + count e) es)
 
-  all_none : (n : ℕ) → all_of n none ≡ ok Neutral
+  all_none : (n : ℕ) → all_of n none ≡ Ok Neutral
   unfolding all_of values_with map_ok and_rule any
   all_none n = refl
 

@@ -1,7 +1,8 @@
 -- Every refusal of presence and of format truth is one of the table. Assumes nothing.
-use Rattle.std.specs.Prelude.{refl, List, Bool, true, false, ◌&&◌, not, ℕ, ◌+◌, eqb, get_or}
+use Rattle.std.specs.Prelude.{refl, List, Bool, true, false, ◌&&◌, not, ℕ, ◌+◌, eqb, get_or, Result, Ok, Err}
 use Rattle.laws.specs.Tests.{cond_both}
-use Rattle.refusal.specs.Result.{Result, ok, refused, refuse, unless}
+use Rattle.refusal.specs.declared.Refusal.{Refusal}
+use Rattle.refusal.specs.Result.{unless}
 use Rattle.refusal.specs.Known.{Known, unless-among, map_known, then_known}
 use Rattle.refusal.specs.declared.Refusal.TheVariants.{ChoiceOverNeutral, FailedAnswer, WrongAnswers}
 use Rattle.utf8.specs.Limits.{value_limit}
@@ -22,14 +23,14 @@ answered_known b =
     cond_both Known (eqb b (truth_number False)) _ _ (λ _. tt)
     λ _. cond_both Known (eqb b (truth_number Unknown)) _ _ (λ _. tt)
     λ _. cond_both Known (eqb b (truth_number True)) _ _ (λ _. tt)
-    λ _. cond_both Known (eqb b (truth_number Neutral)) (ok Neutral) (refuse FailedAnswer) (λ _. tt) λ _. (FailedAnswer, refl)
+    λ _. cond_both Known (eqb b (truth_number Neutral)) (Ok Neutral) (Err FailedAnswer) (λ _. tt) λ _. (FailedAnswer, refl)
 
-valued_known : (t : Bool) (v : Result Truth) (vs : Result (List Truth)) → Known v → Known vs → Known (valued t v vs)
+valued_known : (t : Bool) (v : Result Truth Refusal) (vs : Result (List Truth) Refusal) → Known v → Known vs → Known (valued t v vs)
 unfolding before
 valued_known true v vs h k = k
-valued_known false (ok v) (ok vs) h k = tt
-valued_known false (ok v) (refused n) h k = k
-valued_known false (refused n) vs h k = h
+valued_known false (Ok v) (Ok vs) h k = tt
+valued_known false (Ok v) (Err n) h k = k
+valued_known false (Err n) vs h k = h
 
 module _ (answers : List ℕ) where
   mutual
@@ -59,4 +60,4 @@ eval_known b answers =
 -- the refusals of format truth
 pub truth_known : (tree value : List ℕ) → Known (truth_answer tree value)
 unfolding truth_answer
-truth_known tree value = then_known (tree_of tree) _ (tree_of_known tree) λ e. admitted-among (λ _. Unit {0}) value_limit value (ok (truth value e)) tt
+truth_known tree value = then_known (tree_of tree) _ (tree_of_known tree) λ e. admitted-among (λ _. Unit {0}) value_limit value (Ok (truth value e)) tt

@@ -1,8 +1,9 @@
 -- The rules of presence in words (docs/SEMANTICS.md, 'Presence'), as laws. Assumes nothing.
-use Rattle.std.specs.Prelude.{◌≡◌, refl, List, [], ◌∷◌, Bool, true, false, cond, ◌&&◌, ◌||◌, ℕ, ◌+◌, eqb}
+use Rattle.std.specs.Prelude.{◌≡◌, refl, List, [], ◌∷◌, Bool, true, false, cond, ◌&&◌, ◌||◌, ℕ, ◌+◌, eqb, Result, Ok, Err}
 use Rattle.std.proofs.Common.{ap, eqb-true}
 use Rattle.std.proofs.lemmas.Bool.{false≢true}
-use Rattle.refusal.specs.Result.{Result, ok, refused, refuse, refused≢ok}
+use Rattle.refusal.specs.declared.Refusal.{Refusal}
+use Rattle.refusal.specs.Result.{err≢ok}
 use Rattle.refusal.specs.declared.Refusal.TheVariants.{ChoiceOverNeutral, FailedAnswer}
 use Rattle.citation.specs.declared.Truth.{Truth}
 use Rattle.citation.specs.declared.Truth.TheVariants.{False, Unknown, True, Neutral}
@@ -63,36 +64,36 @@ xor_says (True ∷ vs) = rw (any-filled is_true refl vs, any-filled is_unknown r
 xor_says (Neutral ∷ vs) = xor_says vs
 
 -- an answer byte stands for the truth with its number
-pub answered-truth : (t : Truth) → answered (truth_number t) ≡ ok t
+pub answered-truth : (t : Truth) → answered (truth_number t) ≡ Ok t
 unfolding answered
 answered-truth False = refl
 answered-truth Unknown = refl
 answered-truth True = refl
 answered-truth Neutral = refl
 
-told : {a b : Truth} → ◌≡◌ {A = Result Truth} (ok a) (ok b) → is_unknown a ≡ is_unknown b
+told : {a b : Truth} → ◌≡◌ {A = Result Truth Refusal} (Ok a) (Ok b) → is_unknown a ≡ is_unknown b
 told {a} {b} h = let same : a ≡ b = cc in ap is_unknown same
 
 -- only the byte 1 stands for Unknown
-pub answered_unknown : (b : ℕ) → answered b ≡ ok Unknown → b ≡ truth_number Unknown
+pub answered_unknown : (b : ℕ) → answered b ≡ Ok Unknown → b ≡ truth_number Unknown
 unfolding answered
 answered_unknown b h = eqb-true b 1 (by (eqb b 0) (eqb b 1) (eqb b 2) (eqb b 3) h)
   where
-    by : (x y z w : Bool) → cond x (ok False) (cond y (ok Unknown) (cond z (ok True) (cond w (ok Neutral) (refuse FailedAnswer)))) ≡ ok Unknown → y ≡ true
+    by : (x y z w : Bool) → cond x (Ok False) (cond y (Ok Unknown) (cond z (Ok True) (cond w (Ok Neutral) (Err FailedAnswer)))) ≡ Ok Unknown → y ≡ true
     by true y z w h = absurd (false≢true (told h))
     by false true z w h = refl
     by false false true w h = absurd (false≢true (told h))
     by false false false true h = absurd (false≢true (told h))
-    by false false false false h = absurd (refused≢ok h)
+    by false false false false h = absurd (err≢ok h)
 
-module _ (oracle : ℕ → Result Truth) where
+module _ (oracle : ℕ → Result Truth Refusal) where
   -- a choice that mixes is turned back with 7, whatever the answers: Or
-  pub or_mixes : (n : ℕ) (es : Exprs) → mixes es ≡ true → presence oracle n (join Or es) ≡ refuse ChoiceOverNeutral
+  pub or_mixes : (n : ℕ) (es : Exprs) → mixes es ≡ true → presence oracle n (join Or es) ≡ Err ChoiceOverNeutral
   unfolding presence_with
   or_mixes n es h = rw h
 
   -- the same of Xor
-  pub xor_mixes : (n : ℕ) (es : Exprs) → mixes es ≡ true → presence oracle n (join Xor es) ≡ refuse ChoiceOverNeutral
+  pub xor_mixes : (n : ℕ) (es : Exprs) → mixes es ≡ true → presence oracle n (join Xor es) ≡ Err ChoiceOverNeutral
   unfolding presence_with
   xor_mixes n es h = rw h
 
@@ -108,7 +109,7 @@ module _ (oracle : ℕ → Result Truth) where
   values_kept choosing n e es h = rw h
 
   -- so of several refusals the leftmost is returned
-  pub values_refused : (choosing : Bool) (n k : ℕ) (e : Expr) (es : Exprs) → (choosing && dropped e) ≡ false
-      → presence oracle n e ≡ refused k → values oracle choosing n (e ◂ es) ≡ refused k
+  pub values_refused : (choosing : Bool) (n : ℕ) (why : Refusal) (e : Expr) (es : Exprs) → (choosing && dropped e) ≡ false
+      → presence oracle n e ≡ Err why → values oracle choosing n (e ◂ es) ≡ Err why
   unfolding before
-  values_refused choosing n k e es h r = rw (values_kept choosing n e es h, r)
+  values_refused choosing n why e es h r = rw (values_kept choosing n e es h, r)

@@ -1,7 +1,6 @@
 -- How many violations and package rows there are, and how many bytes they take. Assumes nothing.
-use Rattle.std.specs.Prelude.{◌≡◌, refl, List, [], ◌∷◌, Bool, true, false, cond, ℕ, suc, ◌+◌, ◌*◌, ◌≤◌, length}
+use Rattle.std.specs.Prelude.{◌≡◌, refl, List, [], ◌∷◌, Bool, true, false, cond, ℕ, suc, ◌+◌, ◌*◌, ◌≤◌, length, Result, Ok, Err}
 use Rattle.std.proofs.Common.{ap, ◌∙◌, arith, length-append}
-use Rattle.refusal.specs.Result.{Result, ok, refused}
 use Rattle.citation.specs.Kinds.{kind_of}
 use Rattle.citation.specs.declared.Paket.{Paket}
 use Rattle.citation.specs.Pakete.{paket_of}
@@ -12,6 +11,7 @@ use Rattle.semantics.specs.Rules.{is_false}
 use Rattle.semantics.specs.Truth.{Counts}
 use Rattle.semantics.specs.Violations.{violated, violated_of, number_bytes}
 use Rattle.semantics.specs.Packages.{is_paket, paket_size, bytes_up_to, paket_bytes, read_row, row_of, rows_of}
+use Rattle.refusal.specs.declared.Refusal.{Refusal}
 
 -- two bytes a number
 pub numbers_length : (ns : List ℕ) → length (number_bytes ns) ≡ 2 * length ns
@@ -43,12 +43,12 @@ pub row-length : (n : ℕ) (p : Paket) → length (paket_bytes n p) ≡ paket_si
 unfolding paket_bytes two_bytes bytes_up_to
 row-length n p = refl
 
-read_length : (n : ℕ) (r : Result Paket) → (length (concat (read_row n r)) ≡ paket_size * length (read_row n r)) × (length (read_row n r) ≤ 1)
+read_length : (n : ℕ) (r : Result Paket Refusal) → (length (concat (read_row n r)) ≡ paket_size * length (read_row n r)) × (length (read_row n r) ≤ 1)
 unfolding concat
-read_length n (ok p) = (length-append (paket_bytes n p) [] ∙ rw (row-length n p), omega arith)
-read_length n (refused k) = (refl, omega arith)
+read_length n (Ok p) = (length-append (paket_bytes n p) [] ∙ rw (row-length n p), omega arith)
+read_length n (Err k) = (refl, omega arith)
 
-one_length : (b : Bool) (n : ℕ) (r : Result Paket)
+one_length : (b : Bool) (n : ℕ) (r : Result Paket Refusal)
     → (length (concat (cond b (read_row n r) [])) ≡ paket_size * length (cond b (read_row n r) [])) × (length (cond b (read_row n r) []) ≤ 1)
 unfolding concat
 one_length true n r = read_length n r

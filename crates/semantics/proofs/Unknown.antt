@@ -1,12 +1,13 @@
 -- What Unknown rests on, and that format truth is never Neutral. Assumes nothing.
-use Rattle.std.specs.Prelude.{◌≡◌, Bool, cond, not, ◌&&◌, ◌||◌, ◌⊎◌, ℕ, ◌+◌}
+use Rattle.std.specs.Prelude.{◌≡◌, Bool, cond, not, ◌&&◌, ◌||◌, ◌⊎◌, ℕ, ◌+◌, Result, Ok, Err}
 use Rattle.std.proofs.Math.Path.{refl}
 use Rattle.std.proofs.Common.{sym, ap, ◌∙◌, inl, inr, ⊎_elim, eq-eqb}
 use mathlib.Core.List.Memᴰ
 use mathlib.Core.List.{List, [], ◌∷◌, Memᴰ}
 use Rattle.std.proofs.Math.Bool.{true, false}
 use Rattle.std.proofs.lemmas.Bool.{false≢true}
-use Rattle.refusal.specs.Result.{Result, ok, refused, map_ok, refused≢ok, unless_ok}
+use Rattle.refusal.specs.declared.Refusal.{Refusal}
+use Rattle.refusal.specs.Result.{map_ok, err≢ok, unless_ok}
 use Rattle.refusal.specs.declared.Refusal.TheVariants.{ChoiceOverNeutral}
 use Rattle.citation.specs.Kinds.{kind_of}
 use Rattle.citation.specs.declared.Truth.{Truth}
@@ -69,34 +70,34 @@ xor_telling vs = by (two_true vs) (any is_unknown vs) (any is_true vs) (any is_f
     by false false false false h = absurd (false≢true h)
 
 -- values that were given, one of them Unknown
-abbrev Given : Result (List Truth) → Type 0
-Given r = (vs : List Truth) × (r ≡ ok vs) × (any is_unknown vs ≡ true)
+abbrev Given : Result (List Truth) Refusal → Type 0
+Given r = (vs : List Truth) × (r ≡ Ok vs) × (any is_unknown vs ≡ true)
 
-given : (rule : List Truth → Truth) → Telling rule → (r : Result (List Truth)) → map_ok rule r ≡ ok Unknown → Given r
+given : (rule : List Truth → Truth) → Telling rule → (r : Result (List Truth) Refusal) → map_ok rule r ≡ Ok Unknown → Given r
 unfolding map_ok
-given rule tell (ok vs) h = let same : rule vs ≡ Unknown = cc in (vs, refl, tell vs (ap is_unknown same))
-given rule tell (refused k) h = absurd (refused≢ok h)
+given rule tell (Ok vs) h = let same : rule vs ≡ Unknown = cc in (vs, refl, tell vs (ap is_unknown same))
+given rule tell (Err k) h = absurd (err≢ok h)
 
-given_choice : (rule : List Truth → Truth) → Telling rule → (mixed : Bool) (r : Result (List Truth)) → choice mixed rule r ≡ ok Unknown → Given r
+given_choice : (rule : List Truth → Truth) → Telling rule → (mixed : Bool) (r : Result (List Truth) Refusal) → choice mixed rule r ≡ Ok Unknown → Given r
 given_choice rule tell mixed r h = given rule tell r (unless_ok (not mixed) ChoiceOverNeutral (map_ok rule r) Unknown h).1
 
 -- an Unknown among an operand's value and the others
-split : (d : Bool) (v : Result Truth) (r : Result (List Truth)) (vs : List Truth) → valued d v r ≡ ok vs → any is_unknown vs ≡ true
-    → ((d ≡ false) × (v ≡ ok Unknown)) ⊎ Given r
+split : (d : Bool) (v : Result Truth Refusal) (r : Result (List Truth) Refusal) (vs : List Truth) → valued d v r ≡ Ok vs → any is_unknown vs ≡ true
+    → ((d ≡ false) × (v ≡ Ok Unknown)) ⊎ Given r
 unfolding before any
 split true v r vs h u = inr (vs, h, u)
-split false (ok v) (ok ws) vs h u =
+split false (Ok v) (Ok ws) vs h u =
     let same : v ∷ ws ≡ vs = cc in
-    ⊎_elim (λ t. inl (refl, ap ok (is_unknown_lem v t))) (λ t. inr (ws, refl, t)) (or_cases (is_unknown v) (any is_unknown ws) (ap (any is_unknown) same ∙ u))
-split false (ok v) (refused k) vs h u = absurd (refused≢ok h)
-split false (refused k) r vs h u = absurd (refused≢ok h)
+    ⊎_elim (λ t. inl (refl, ap Ok (is_unknown_lem v t))) (λ t. inr (ws, refl, t)) (or_cases (is_unknown v) (any is_unknown ws) (ap (any is_unknown) same ∙ u))
+split false (Ok v) (Err k) vs h u = absurd (err≢ok h)
+split false (Err k) r vs h u = absurd (err≢ok h)
 
-module _ (oracle : ℕ → Result Truth) where
+module _ (oracle : ℕ → Result Truth Refusal) where
   mutual
     unfolding presence_with evaluates any
 
     -- an Unknown presence comes from a citation that is evaluated and answered with Unknown
-    pub unknown_cited : (n : ℕ) (e : Expr) → presence oracle n e ≡ ok Unknown → UnknownAmong oracle (λ k. evaluates k n e)
+    pub unknown_cited : (n : ℕ) (e : Expr) → presence oracle n e ≡ Ok Unknown → UnknownAmong oracle (λ k. evaluates k n e)
     unknown_cited n (cite t) h = record { number = n; is_evaluated = eq-eqb n n refl; answer = h }
     unknown_cited n (Then es) h = values_unknown false n es (given and_rule and_telling _ h)
     unknown_cited n (join And es) h = values_unknown false n es (given and_rule and_telling _ h)

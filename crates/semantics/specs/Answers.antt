@@ -1,6 +1,7 @@
 -- What `eval`, `truth`, `violations`, `eval_and_truth` and `pakete` answer on bytes, with the refusals in their order. Assumes nothing.
-use Rattle.std.specs.Prelude.{List, ℕ, length}
-use Rattle.refusal.specs.Result.{Result, ok, unless, then, map_ok}
+use Rattle.std.specs.Prelude.{List, ℕ, length, Result, Ok}
+use Rattle.refusal.specs.declared.Refusal.{Refusal}
+use Rattle.refusal.specs.Result.{unless, then, map_ok}
 use Rattle.refusal.specs.declared.Refusal.TheVariants.{WrongAnswers}
 use Rattle.utf8.specs.Limits.{value_limit, admitted}
 use Rattle.citation.specs.declared.Truth.{Truth}
@@ -13,16 +14,16 @@ use Rattle.semantics.specs.Packages.{pakete}
 use Rattle.grammar.specs.Outcome.{Written, Outcome}
 
 -- presence by answer bytes: 7 and 8 as met
-abbrev pub presence_by : List ℕ → Expr → Result Truth
+abbrev pub presence_by : List ℕ → Expr → Result Truth Refusal
 presence_by answers e = presence (oracle_of answers) 0 e
 
 -- `eval`: 15, 16, then 7 and 8 as met
-unfoldable pub eval_answer : (tree answers : List ℕ) → Result Truth
+unfoldable pub eval_answer : (tree answers : List ℕ) → Result Truth Refusal
 eval_answer tree answers = then (tree_of tree) (λ e. unless (answers_fit e answers) WrongAnswers (presence_by answers e))
 
 -- `truth`: 15, then the value's 10 and 11
-unfoldable pub truth_answer : (tree value : List ℕ) → Result Truth
-truth_answer tree value = then (tree_of tree) (λ e. admitted value_limit value (ok (truth value e)))
+unfoldable pub truth_answer : (tree value : List ℕ) → Result Truth Refusal
+truth_answer tree value = then (tree_of tree) (λ e. admitted value_limit value (Ok (truth value e)))
 
 -- their count, and their bytes
 abbrev pub numbered : List ℕ → Written ℕ
@@ -30,10 +31,10 @@ numbered ns = record { answer = length ns; bytes = number_bytes ns }
 
 -- `violations`: 15, then the value's 10 and 11
 unfoldable pub violations_answer : (tree value : List ℕ) → Outcome ℕ
-violations_answer tree value = then (tree_of tree) (λ e. admitted value_limit value (ok (numbered (violations value e))))
+violations_answer tree value = then (tree_of tree) (λ e. admitted value_limit value (Ok (numbered (violations value e))))
 
 -- `eval_and_truth`: 15, 16, the value's 10 and 11, then 7 and 8 as met
-unfoldable pub eval_and_truth_answer : (tree answers value : List ℕ) → Result (Truth × Truth)
+unfoldable pub eval_and_truth_answer : (tree answers value : List ℕ) → Result (Truth × Truth) Refusal
 eval_and_truth_answer tree answers value =
     then (tree_of tree)
     (λ e. unless (answers_fit e answers) WrongAnswers (admitted value_limit value (map_ok (λ p. (p, truth value e)) (presence_by answers e))))

@@ -1,6 +1,5 @@
 -- Package rows: the bounds of the Paket citations (docs/SEMANTICS.md, 'Package bounds'; docs/FORMAT.md for their bytes). Assumes nothing.
-use Rattle.std.specs.Prelude.{List, [], ◌∷◌, ◌++◌, Bool, true, false, cond, ℕ, zero, suc, ◌/◌, ◌%◌}
-use Rattle.refusal.specs.Result.{Result, ok, refused}
+use Rattle.std.specs.Prelude.{List, [], ◌∷◌, ◌++◌, Bool, true, false, cond, ℕ, zero, suc, ◌/◌, ◌%◌, Result, Ok, Err, is_some, unwrap_or}
 use Rattle.citation.specs.declared.ConditionKind.{ConditionKind}
 use Rattle.citation.specs.declared.ConditionKind.TheVariants as kinds
 use Rattle.citation.specs.Kinds.{kind_of}
@@ -8,6 +7,7 @@ use Rattle.citation.specs.declared.Paket.{Paket}
 use Rattle.citation.specs.Pakete.{paket_of}
 use Rattle.grammar.specs.Expr.{Expr, citations}
 use Rattle.grammar.specs.Bytes.{two_bytes}
+use Rattle.refusal.specs.declared.Refusal.{Refusal}
 
 -- the kind is Paket
 abbrev pub is_paket : ConditionKind → Bool
@@ -35,12 +35,12 @@ mark_of false = 0
 
 -- the bytes of a package row: citation number, low, mark, and high or 0
 unfoldable pub paket_bytes : ℕ → Paket → List ℕ
-paket_bytes n p = two_bytes n ++ (bytes_up_to 8 p.low ++ (mark_of p.bounded ∷ bytes_up_to 8 (cond p.bounded p.high 0)))
+paket_bytes n p = two_bytes n ++ (bytes_up_to 8 p.low ++ (mark_of (is_some p.high) ∷ bytes_up_to 8 (unwrap_or p.high 0)))
 
 -- the row of a Paket that was read; an unreadable one has none
-abbrev pub read_row : ℕ → Result Paket → List (List ℕ)
-read_row n (ok p) = paket_bytes n p ∷ []
-read_row n (refused k) = []
+abbrev pub read_row : ℕ → Result Paket Refusal → List (List ℕ)
+read_row n (Ok p) = paket_bytes n p ∷ []
+read_row n (Err k) = []
 
 -- the row of the citation with the number n, if its kind is Paket
 abbrev pub row_of : ℕ → List ℕ → List (List ℕ)

@@ -1,6 +1,7 @@
 -- Presence: whether a field is to be filled (docs/SEMANTICS.md, 'Presence'). Assumes nothing.
-use Rattle.std.specs.Prelude.{List, [], ◌∷◌, Bool, true, false, cond, not, ◌&&◌, ◌||◌, ℕ, ◌+◌, eqb, leb, length, get_or}
-use Rattle.refusal.specs.Result.{Result, ok, refused, refuse, unless, map_ok}
+use Rattle.std.specs.Prelude.{List, [], ◌∷◌, Bool, true, false, cond, not, ◌&&◌, ◌||◌, ℕ, ◌+◌, eqb, leb, length, get_or, Result, Ok, Err}
+use Rattle.refusal.specs.declared.Refusal.{Refusal}
+use Rattle.refusal.specs.Result.{unless, map_ok}
 use Rattle.refusal.specs.declared.Refusal.TheVariants.{ChoiceOverNeutral, FailedAnswer}
 use Rattle.text.specs.Bytes.{all}
 use Rattle.citation.specs.declared.ConditionKind.{ConditionKind}
@@ -33,18 +34,18 @@ is_gate Paket = true
 is_gate Other = false
 
 -- a value before others, or the first refusal met
-unfoldable pub before : Result Truth → Result (List Truth) → Result (List Truth)
-before (ok v) (ok vs) = ok (v ∷ vs)
-before (ok v) (refused k) = refused k
-before (refused k) vs = refused k
+unfoldable pub before : Result Truth Refusal → Result (List Truth) Refusal → Result (List Truth) Refusal
+before (Ok v) (Ok vs) = Ok (v ∷ vs)
+before (Ok v) (Err k) = Err k
+before (Err k) vs = Err k
 
 -- an operand's value before those of the others; that of a dropped operand is not looked at
-abbrev pub valued : Bool → Result Truth → Result (List Truth) → Result (List Truth)
+abbrev pub valued : Bool → Result Truth Refusal → Result (List Truth) Refusal → Result (List Truth) Refusal
 valued true v vs = vs
 valued false v vs = before v vs
 
 -- a choice by a rule over its kept operands' values; one that mixes is turned back with 7, before any value is looked at
-abbrev pub choice : (mixed : Bool) → (List Truth → Truth) → Result (List Truth) → Result Truth
+abbrev pub choice : (mixed : Bool) → (List Truth → Truth) → Result (List Truth) Refusal → Result Truth Refusal
 choice mixed rule vs = unless (not mixed) ChoiceOverNeutral (map_ok rule vs)
 
 -- What presence looks at of a text is handed in: whether it is a Hinweis, and whether it gates.
@@ -67,10 +68,10 @@ module _ (hint gate : List ℕ → Bool) where
   abbrev pub mixes_with : Exprs → Bool
   mixes_with es = some_gate_with es && some_free_with es
 
-  module _ (oracle : ℕ → Result Truth) where
+  module _ (oracle : ℕ → Result Truth Refusal) where
     unfoldable mutual
       -- the presence of an expression whose first citation has the number n; the oracle answers each citation's number
-      pub presence_with : ℕ → Expr → Result Truth
+      pub presence_with : ℕ → Expr → Result Truth Refusal
       presence_with n (cite t) = oracle n
       presence_with n (Then es) = map_ok and_rule (values_with false n es)
       presence_with n (join And es) = map_ok and_rule (values_with false n es)
@@ -78,8 +79,8 @@ module _ (hint gate : List ℕ → Bool) where
       presence_with n (join Xor es) = choice (mixes_with es) xor_rule (values_with true n es)
 
       -- the operands' values, from left to right; a choice leaves out the dropped
-      pub values_with : (choosing : Bool) → ℕ → Exprs → Result (List Truth)
-      values_with choosing n none = ok []
+      pub values_with : (choosing : Bool) → ℕ → Exprs → Result (List Truth) Refusal
+      values_with choosing n none = Ok []
       values_with choosing n (more e es) = valued (choosing && dropped_with e) (presence_with n e) (values_with choosing (n + count e) es)
 
 -- By the kinds of texts, as the public functions judge.
@@ -117,11 +118,11 @@ abbrev pub mixes : Exprs → Bool
 mixes = mixes_with is_hinweis_text is_gate_text
 
 -- the presence of an expression, by an oracle and the number of its first citation
-abbrev pub presence : (oracle : ℕ → Result Truth) → ℕ → Expr → Result Truth
+abbrev pub presence : (oracle : ℕ → Result Truth Refusal) → ℕ → Expr → Result Truth Refusal
 presence = presence_with is_hinweis_text is_gate_text
 
 -- the operands' values
-abbrev pub values : (oracle : ℕ → Result Truth) (choosing : Bool) → ℕ → Exprs → Result (List Truth)
+abbrev pub values : (oracle : ℕ → Result Truth Refusal) (choosing : Bool) → ℕ → Exprs → Result (List Truth) Refusal
 values = values_with is_hinweis_text is_gate_text
 
 -- the answer byte of a citation whose evaluation failed
@@ -129,16 +130,16 @@ abbrev pub failed : ℕ
 failed = 4
 
 -- an answer byte's truth; a failed evaluation is turned back with 8
-unfoldable pub answered : ℕ → Result Truth
+unfoldable pub answered : ℕ → Result Truth Refusal
 answered b =
-    cond (eqb b (truth_number False)) (ok False)
-    (cond (eqb b (truth_number Unknown)) (ok Unknown)
-    (cond (eqb b (truth_number True)) (ok True)
-    (cond (eqb b (truth_number Neutral)) (ok Neutral)
-    (refuse FailedAnswer))))
+    cond (eqb b (truth_number False)) (Ok False)
+    (cond (eqb b (truth_number Unknown)) (Ok Unknown)
+    (cond (eqb b (truth_number True)) (Ok True)
+    (cond (eqb b (truth_number Neutral)) (Ok Neutral)
+    (Err FailedAnswer))))
 
 -- answer bytes as an oracle
-abbrev pub oracle_of : List ℕ → ℕ → Result Truth
+abbrev pub oracle_of : List ℕ → ℕ → Result Truth Refusal
 oracle_of answers n = answered (get_or answers n failed)
 
 -- one answer byte a citation, none over 4

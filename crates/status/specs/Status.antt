@@ -1,15 +1,12 @@
 -- The status words, the code of each (docs/FORMAT.md, 'Texts'), and which of them a receiver may check. Assumes nothing.
-use Rattle.std.specs.Prelude.{◌≡◌, refl, ℕ, ◌-◌, Bool, true, false, cond, List, [], ◌∷◌, ◌++◌, length, get_or, replicate}
+use Rattle.std.specs.Prelude.{refl, ℕ, Bool, true, false, cond, List, [], ◌∷◌, get_or, Result, Ok, Err}
 use mathlib.Mathlib.Logic.Function.Defs.{Injective, LeftInverse, LeftInverse-Injective}
 use Rattle.text.specs.Quoted.{ascii}
 use Rattle.text.specs.Bytes.{same}
-use Rattle.refusal.specs.Result.{Result, ok, refuse, saying, said_injective}
+use Rattle.refusal.specs.declared.Refusal.{Refusal}
 use Rattle.refusal.specs.declared.Refusal.TheVariants.{NoStatusWord}
 use Rattle.status.specs.declared.StatusKind.{StatusKind}
 use Rattle.status.specs.declared.StatusKind.TheVariants.{Muss, Soll, Kann, X, M, S, K}
-use Rattle.status.specs.declared.Word.{Word}
-use Rattle.status.specs.declared.WordAnswer.{WordAnswer}
-use Rattle.status.specs.declared.WordAnswer.TheVariants.{Is, NoWord}
 
 -- the code of a status word
 abbrev pub code_of : StatusKind → ℕ
@@ -54,26 +51,13 @@ pub code_injective : Injective code_of
 code_injective = LeftInverse-Injective kind_at code_of code_round
 
 -- the first of the kinds that has this word
-unfoldable pub kind_among : List StatusKind → List ℕ → Result StatusKind
-kind_among [] w = refuse NoStatusWord
-kind_among (k ∷ ks) w = cond (same (word_of k) w) (ok k) (kind_among ks w)
+unfoldable pub kind_among : List StatusKind → List ℕ → Result StatusKind Refusal
+kind_among [] w = Err NoStatusWord
+kind_among (k ∷ ks) w = cond (same (word_of k) w) (Ok k) (kind_among ks w)
 
 -- the kind that a word names, or refusal 9
-unfoldable pub kind_of_word : List ℕ → Result StatusKind
+unfoldable pub kind_of_word : List ℕ → Result StatusKind Refusal
 kind_of_word w = kind_among kinds w
-
--- what `from_word` answers
-abbrev pub word_said : WordAnswer → Result StatusKind
-word_said (Is k) = ok k
-word_said NoWord = refuse NoStatusWord
-
--- what is said determines the answer
-pub word-said_injective : Injective word_said
-word-said_injective = said_injective Is (λ _. NoWord) word_said λ a. elim a as (λ k. saying Is (λ _. NoWord) (word_said k) ≡ k) [ Is k ↦ refl | NoWord ↦ refl ]
-
--- a word of at most four bytes as a struct holds it: the bytes, then zeros, and their number
-abbrev pub word_held : List ℕ → Word
-word_held w = record { bytes = w ++ replicate (4 - length w) 0; len = length w }
 
 -- whether a receiver may check a field of this status, and reject by it
 abbrev pub is_receiver_checkable : StatusKind → Bool

@@ -25,20 +25,17 @@ struct Seen {
     differ: u32,
 }
 
-fn say(out: Stdout, s: &[u8]) {
-    console::write_all(out, s);
+fn say(mut out: Stdout, s: &[u8]) {
+    console::write_all(&mut out, s);
 }
 
-fn say_number(out: Stdout, n: u64) {
-    console::print_decimal(out, n);
+fn say_number(mut out: Stdout, n: u64) {
+    console::print_decimal(&mut out, n);
 }
 
 // A year's number without its sign.
 fn unsigned(year: u16) -> u16 {
-    if year < ERA_START {
-        return ERA_START - year;
-    }
-    year - ERA_START
+    year.abs_diff(ERA_START)
 }
 
 // The days of a year, by its own number: every fourth has 366, but of the hundredth ones every fourth only.
@@ -46,61 +43,51 @@ fn year_days(year: u16) -> u32
     ensures { result ≤ 366 }
 {
     let n = unsigned(year);
-    if n % 4 != 0 {
-        return 365;
+    if n % 4 == 0 && (n % 100 != 0 || n / 100 % 4 == 0) {
+        366
+    } else {
+        365
     }
-    if n % 100 != 0 {
-        return 366;
-    }
-    if n / 100 % 4 != 0 {
-        return 365;
-    }
-    366
 }
 
 fn say_differing(out: Stdout, year: u16, month: u8, day: u8) {
     if year < ERA_START {
         say(out, b"-");
     }
-    say_number(out, unsigned(year) as u64);
+    say_number(out, u64::from(unsigned(year)));
     say(out, b" month ");
-    say_number(out, month as u64);
+    say_number(out, u64::from(month));
     say(out, b": counted ");
-    say_number(out, day as u64);
+    say_number(out, u64::from(day));
     say(out, b", answered ");
-    say_number(out, calendar::last_sunday(year, month) as u64);
+    say_number(out, u64::from(calendar::last_sunday(year, month)));
     say(out, b"\n");
 }
 
 // Whether summer time ends on the day at 01:00, or begins, where the month is not October.
+#[tactic(auto, unfolding(crate::specs::Switches::switching))]
 fn switches(year: u16, month: u8, day: u8) -> bool
     ensures { result ≡ switching year month day }
 {
     let early = calendar::is_mesz(year, month, day, 0, 59);
     let late = calendar::is_mesz(year, month, day, 1, 0);
     if month == 10 {
-        if late {
-            return false;
-        }
-        return early;
+        early && !late
+    } else {
+        !early && late
     }
-    if early {
-        return false;
-    }
-    late
 }
 
 // Whether the calendar has the day for the last Sunday, and summer time switches on it.
+#[tactic(auto, unfolding(crate::specs::Switches::agreeing))]
 fn agrees(year: u16, month: u8, day: u8) -> bool
     ensures { result ≡ agreeing year month day }
 {
-    if calendar::last_sunday(year, month) != day as u32 {
-        return false;
-    }
-    switches(year, month, day)
+    calendar::last_sunday(year, month) == u32::from(day) && switches(year, month, day)
 }
 
 // One date more: the last Sunday of a month whose 31st has this number. A date that differs is counted.
+#[tactic(auto, unfolding(crate::specs::Switches::differing))]
 fn look(out: Stdout, seen: Seen, year: u16, month: u8, number: u32) -> Seen
     requires { (seen.dates ≤ 1000000) × (seen.differ ≤ seen.dates) }
     ensures { (result.dates ≡ seen.dates + 1) × ((result.differ ≡ seen.differ + differing year month (31 - number % 7)) × (result.differ ≤ result.dates)) }
@@ -108,12 +95,13 @@ fn look(out: Stdout, seen: Seen, year: u16, month: u8, number: u32) -> Seen
     let day = (31 - number % 7) as u8;
     let dates = seen.dates + 1;
     if agrees(year, month, day) {
-        let differ = seen.differ;
-        return Seen { dates, differ };
+        return Seen { dates, ..seen };
     }
     say_differing(out, year, month, day);
-    let differ = seen.differ + 1;
-    Seen { dates, differ }
+    Seen {
+        dates,
+        differ: seen.differ + 1,
+    }
 }
 
 // Both dates of a year more; 214 days after 31 March comes 31 October.
@@ -138,17 +126,16 @@ fn look_forward(out: Stdout) -> Seen
         dates: 0,
         differ: 0,
     };
-    let mut year = KNOWN_YEAR;
     let mut march_31 = KNOWN_SUNDAY + 2;
-    while year <= LAST_YEAR {
+    for year in KNOWN_YEAR..=LAST_YEAR {
         seen = look_at_year(out, seen, year, march_31);
-        year += 1;
-        march_31 += year_days(year);
+        march_31 += year_days(year + 1);
     }
     seen
 }
 
-// The 3,025 years from 2025 back to -999.
+// The 3,025 years from 2025 back to -999. Counted down, a year's days are taken off before it is looked at, so this is no
+// one function with `look_forward`.
 fn look_back(out: Stdout) -> Seen
     ensures { (result.dates ≡ 2 * 3025) × (result.differ ≤ result.dates) }
 {
@@ -156,11 +143,10 @@ fn look_back(out: Stdout) -> Seen
         dates: 0,
         differ: 0,
     };
-    let mut year = KNOWN_YEAR;
     let mut march_31 = KNOWN_SUNDAY + 2;
-    while FIRST_YEAR < year {
-        march_31 -= year_days(year);
-        year -= 1;
+    for ago in 1..=KNOWN_YEAR - FIRST_YEAR {
+        let year = KNOWN_YEAR - ago;
+        march_31 -= year_days(year + 1);
         seen = look_at_year(out, seen, year, march_31);
     }
     seen
@@ -170,8 +156,8 @@ fn main(rt: HostRuntime) {
     let out = rt.stdout();
     let later = look_forward(out);
     let earlier = look_back(out);
-    say_number(out, (later.dates + earlier.dates) as u64);
+    say_number(out, u64::from(later.dates + earlier.dates));
     say(out, b" switch dates of the years -999 to 9999, ");
-    say_number(out, (later.differ + earlier.differ) as u64);
+    say_number(out, u64::from(later.differ + earlier.differ));
     say(out, b" differ\n");
 }

@@ -1,63 +1,46 @@
 // Writes the code of every white-space character, and every status word with its code and whether a receiver may check it:
-// the comparison holds both tables against the original.
+// the comparison holds both tables against the original. A write that fails is passed over.
 
 #![tactic(auto)]
 
 use status::StatusKind;
-use std::io::Stdout;
+use std::io::Write;
 
-fn say(out: Stdout, s: &[u8]) {
-    console::write_all(out, s);
-}
-
-fn say_white(out: Stdout, code: u32) {
-    if utf8::is_white(code) {
-        say(out, b"white ");
-        console::print_hex(out, code as u64, 6);
-        say(out, b"\n");
+fn whites<W: Write>(out: &mut W) {
+    for code in 0u32..0x110000 {
+        if utf8::is_white(code) {
+            let _ = writeln!(out, "white {code:06x}");
+        }
     }
 }
 
-fn whites(out: Stdout) {
-    let mut code: u32 = 0;
-    while code < 0x110000 {
-        say_white(out, code);
-        code += 1;
-    }
-}
-
-// A byte of a word; what fills it up is passed over.
-fn say_letter(out: Stdout, b: u8) {
-    if 0 < b {
-        say(out, &[b]);
-    }
-}
-
-fn say_word(out: Stdout, kind: StatusKind) {
+fn say_word<W: Write>(out: &mut W, kind: StatusKind) {
     let word = kind.as_str();
-    let bytes = word.bytes;
-    say(out, b"word ");
-    say_letter(out, bytes[0]);
-    say_letter(out, bytes[1]);
-    say_letter(out, bytes[2]);
-    say_letter(out, bytes[3]);
-    say(out, b" ");
-    console::print_decimal(out, kind.code() as u64);
-    if kind.is_receiver_checkable() {
-        say(out, b" receiver\n");
+    let code = u8::from(kind);
+    let checker = if kind.is_receiver_checkable() {
+        "receiver"
     } else {
-        say(out, b" sender\n");
+        "sender"
+    };
+    let _ = writeln!(out, "word {word} {code} {checker}");
+}
+
+fn words<W: Write>(out: &mut W) {
+    for kind in [
+        StatusKind::Muss,
+        StatusKind::Soll,
+        StatusKind::Kann,
+        StatusKind::X,
+        StatusKind::M,
+        StatusKind::S,
+        StatusKind::K,
+    ] {
+        say_word(out, kind);
     }
 }
 
 fn main(rt: HostRuntime) {
-    let out = rt.stdout();
-    whites(out);
-    say_word(out, StatusKind::Muss);
-    say_word(out, StatusKind::Soll);
-    say_word(out, StatusKind::Kann);
-    say_word(out, StatusKind::X);
-    say_word(out, StatusKind::M);
-    say_word(out, StatusKind::S);
-    say_word(out, StatusKind::K);
+    let mut out = rt.stdout();
+    whites(&mut out);
+    words(&mut out);
 }

@@ -1,17 +1,21 @@
 -- Laws of byte strings, as a loop over one byte a turn uses them. Assumes nothing.
-use Prim.Native.Nat.{ℕ, suc, ◌+◌, ◌≤◌, ◌<◌, min}
-use mathlib.Core.Path.{◌≡◌, refl, sym, ap₂, ◌∙◌}
-use mathlib.Core.Bool.{Bool, true, false, cond, and-false}
+use Prim.Native.Nat.{ℕ, suc, ◌+◌, ◌-◌, ◌≤◌, ◌<◌, min}
+use mathlib.Core.Path.{◌≡◌, refl, sym, ap, ap₂, subst, ◌∙◌}
+use mathlib.Core.Bool.{Bool, true, false, cond, ◌&&◌, and-false}
 use mathlib.Core.List.{List, [], ◌∷◌}
 use native.Mathlib.Omega.{arith}
 use native.Mathlib.Numerals.{add-one}
 use native.Mathlib.Decide.{dec_lt}
-use lib.ListN.{length, get_or, take, drop, drop_of_length-le}
+use lib.ListN.{length, get_or, take, drop, drop_of_length-le, length-drop}
 use lib.Seq.{drop-cons, drop-length, take-length, take_all}
 use lib.Dec.{eqb}
-use borrow.Author.Tests.{eq-eqb, ne_eqb, eqb-true}
+use borrow.Author.Tests.{eq-eqb, eqb-true, le-leb, lt-leb}
+use Rattle.std.specs.List.{list_all}
+use Rattle.std.specs.Cmp.Lexicographic.{pointwise}
+use Rattle.std.proofs.lemmas.Bool.Decides.{Decides-eqb, same_from_decides}
+use Rattle.std.proofs.lemmas.Slice.Eq.{bytes_eq-Decides}
 use Rattle.laws.specs.Tests.{and_both}
-use Rattle.text.specs.Bytes.{all, begins, same, place}
+use Rattle.text.specs.Bytes.{all, begins, ends, same, place}
 
 -- a place past the end is the end
 module _ (n : ℕ) (s : List ℕ) where
@@ -46,21 +50,6 @@ module _ (f : ℕ → Bool) (s : List ℕ) (i : ℕ) where
 
   pub all_end : length s ≤ i → true ≡ all f (drop i s)
   all_end h = rw (drop_of_length-le s h)
-
-pub begins_short : (t s : List ℕ) → length s < length t → begins t s ≡ false
-begins_short [] s h = absurd (omega arith)
-begins_short (a ∷ t) [] h = refl
-begins_short (a ∷ t) (b ∷ s) h = rw (begins_short t s (omega arith), and-false (eqb b a))
-
-module _ (t s : List ℕ) (j i : ℕ) (ht : j < length t) (hs : i < length s) where
-  pub begins-next : get_or s i 0 ≡ get_or t j 0 → begins (drop (j + 1) t) (drop (i + 1) s) ≡ begins (drop j t) (drop i s)
-  begins-next e = rw (drop-cons t j 0 ht, drop-cons s i 0 hs, add-one j, add-one i, eq-eqb (get_or s i 0) (get_or t j 0) e)
-
-  pub begins_fail : (get_or s i 0 ≡ get_or t j 0 → ⊥) → false ≡ begins (drop j t) (drop i s)
-  begins_fail e = rw (drop-cons t j 0 ht, drop-cons s i 0 hs, ne_eqb (get_or s i 0) (get_or t j 0) e)
-
-pub begins_end : (t s : List ℕ) (j : ℕ) → length t ≤ j → true ≡ begins (drop j t) s
-begins_end t s j h = rw (drop_of_length-le t h)
 
 module _ (t s : List ℕ) (i : ℕ) where
   step : i < length s → place t (drop i s) ≡ cond (begins t (drop i s)) 0 (suc (place t (drop (i + 1) s)))
@@ -103,6 +92,44 @@ same_refl s = rw (eq-eqb (length s) (length s) refl) (go s)
     go : (s : List ℕ) → begins s s ≡ true
     go [] = refl
     go (b ∷ s) = rw (eq-eqb b b refl) (go s)
+
+eqb_turn : (a b : ℕ) → eqb a b ≡ eqb b a
+eqb_turn a b =
+    let d = Decides-eqb b a in
+    same_from_decides (eqb a b) (eqb b a) (Decides-eqb a b) (λ e. sym (d.0 e), λ e. d.1 (sym e))
+
+-- std's `starts_with`, `ends_with` and `==` on bytes say what the definitions here say
+pub starts_is_begins : (t s : List ℕ) → pointwise eqb t (take (length t) s) ≡ begins t s
+starts_is_begins [] s = refl
+starts_is_begins (a ∷ t) [] = refl
+starts_is_begins (a ∷ t) (b ∷ s) = rw (eqb_turn a b, starts_is_begins t s)
+
+longer_differs : (t s : List ℕ) → length s < length t → pointwise eqb t s ≡ false
+longer_differs [] s h = absurd (omega arith)
+longer_differs (a ∷ t) [] h = refl
+longer_differs (a ∷ t) (b ∷ s) h = rw (longer_differs t s (omega arith), and-false (eqb a b))
+
+pub ends_is_ends : (t s : List ℕ) → pointwise eqb t (drop (length s - length t) s) ≡ ends t s
+ends_is_ends t s = go (dec_lt (length s) (length t))
+  where
+    go : Dec (length s < length t) → pointwise eqb t (drop (length s - length t) s) ≡ ends t s
+    go (yes h) =
+        let e : length s - length t ≡ 0 = omega arith in
+        rw (lt-leb (length t) (length s) h, e) (longer_differs t s h)
+    go (no h) =
+        let n = length s - length t in
+        let l : length (drop n s) ≤ length t = omega (arith, length-drop n s) in
+        rw (le-leb (length t) (length s) (omega arith))
+        (sym (ap (pointwise eqb t) (take_all (length t) (drop n s) l)) ∙ starts_is_begins t (drop n s))
+
+pub equals_is_same : (t s : List ℕ) → pointwise eqb s t ≡ same t s
+equals_is_same t s =
+    same_from_decides (pointwise eqb s t) (same t s) (bytes_eq-Decides s t)
+    (λ h. sym (same_equal t s h), λ e. subst (λ (x : List ℕ). same t x ≡ true) (sym e) (same_refl t))
+
+pub all_is_all : (f : ℕ → Bool) (s : List ℕ) → list_all f s ≡ all f s
+all_is_all f [] = refl
+all_is_all f (b ∷ s) = ap (λ (t : Bool). f b && t) (all_is_all f s)
 
 pub empty : (s : List ℕ) → length s ≡ 0 → s ≡ []
 empty [] h = refl

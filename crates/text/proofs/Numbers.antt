@@ -8,22 +8,13 @@ use native.Mathlib.Numerals.{add-one}
 use native.Mathlib.Nat.{mul-le-mul_right, pow-suc, mul_assoc, add-mul, mul_comm, zero-mul}
 use native.Mathlib.Decide.{dec_lt}
 use lib.ListN.{length, get_or, drop}
+use Rattle.std.specs.Prelude.{Some, None}
 use lib.Seq.{drop-cons}
 use lib.Dec.{ltb, leb}
 use borrow.Author.Tests.{lt-ltb, le-ltb, le-leb, lt-leb, leb-true, ne_eqb}
 use Rattle.laws.specs.Tests.{and_both}
 use Rattle.text.specs.Bytes.{begins, place, has}
 use Rattle.text.specs.Digits.{is_digit, all_digits, nat_from, nat_of, digits_up_to, plus_width, number_up_to}
-use Rattle.text.specs.declared.Found.TheVariants.{Number, Nothing}
-
-pub digit_low : (b : ℕ) → b < 48 → is_digit b ≡ false
-digit_low b h = simp (lt-leb 48 b h)
-
-pub digit_high : (b : ℕ) → 57 < b → is_digit b ≡ false
-digit_high b h = rw (lt-leb b 57 h, and-false (leb 48 b))
-
-pub digit_in : (b : ℕ) → 48 ≤ b → b ≤ 57 → is_digit b ≡ true
-digit_in b h k = simp (le-leb 48 b h, le-leb b 57 k)
 
 -- a digit's bounds
 pub digit_range : (b : ℕ) → is_digit b ≡ true → (48 ≤ b) × (b ≤ 57)
@@ -92,13 +83,13 @@ nat_cut cap n s = go (dec_lt cap n)
         rw e
 
 module _ (most : ℕ) (d : List ℕ) where
-  pub up_other : all_digits d ≡ false → Nothing ≡ digits_up_to most d
+  pub up_other : all_digits d ≡ false → None ≡ digits_up_to most d
   up_other e = rw (e, and-false (ltb 0 (length d)))
 
-  pub up_over : most < nat_of d → Nothing ≡ digits_up_to most d
+  pub up_over : most < nat_of d → None ≡ digits_up_to most d
   up_over h = rw (lt-leb (nat_of d) most h, and-false (all_digits d), and-false (ltb 0 (length d)))
 
-  pub up_here : 0 < length d → all_digits d ≡ true → nat_of d ≤ most → Number (nat_of d) ≡ digits_up_to most d
+  pub up_here : 0 < length d → all_digits d ≡ true → nat_of d ≤ most → Some (nat_of d) ≡ digits_up_to most d
   up_here h a l = rw (lt-ltb 0 (length d) h, a, le-leb (nat_of d) most l)
 
 -- a digit that takes the number over the largest one
@@ -123,10 +114,10 @@ module _ (x : ℕ) (t : List ℕ) (no : is_digit x ≡ false) where
   not_in s a = rw (place_none s a) (le-ltb (length s) (length s) (omega arith))
 
 -- what is found keeps its bound
-pub digits_bound : (most : ℕ) (d : List ℕ) (n : ℕ) → digits_up_to most d ≡ Number n → n ≤ most
+pub digits_bound : (most : ℕ) (d : List ℕ) (n : ℕ) → digits_up_to most d ≡ Some n → n ≤ most
 digits_bound most d n e = go (ltb 0 (length d) && (all_digits d && leb (nat_of d) most)) refl e
   where
-    go : (t : Bool) → (ltb 0 (length d) && (all_digits d && leb (nat_of d) most)) ≡ t → cond t (Number (nat_of d)) Nothing ≡ Number n → n ≤ most
+    go : (t : Bool) → (ltb 0 (length d) && (all_digits d && leb (nat_of d) most)) ≡ t → cond t (Some (nat_of d)) None ≡ Some n → n ≤ most
     go true h f =
         let q = and_both (ltb 0 (length d)) (all_digits d && leb (nat_of d) most) h in
         let l = leb-true (nat_of d) most (and_both (all_digits d) (leb (nat_of d) most) q.1).1 in
@@ -134,6 +125,6 @@ digits_bound most d n e = go (ltb 0 (length d) && (all_digits d && leb (nat_of d
         omega arith
     go false h f = let q : ◌≡◌ {A = ℕ} 0 1 = cc in absurd (omega arith)
 
-pub number_bound : (most : ℕ) (s : List ℕ) (n : ℕ) → number_up_to most s ≡ Number n → n ≤ most
+pub number_bound : (most : ℕ) (s : List ℕ) (n : ℕ) → number_up_to most s ≡ Some n → n ≤ most
 unfolding number_up_to
 number_bound most s n e = digits_bound most (drop (plus_width s) s) n e

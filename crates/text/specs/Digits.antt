@@ -1,9 +1,7 @@
 -- Digits, and the unsigned numbers that they write. Assumes nothing.
-use Rattle.std.specs.Prelude.{ℕ, ◌+◌, ◌-◌, ◌*◌, List, [], ◌∷◌, Bool, cond, ◌&&◌, length, drop, ltb, leb}
+use Rattle.std.specs.Prelude.{ℕ, ◌+◌, ◌-◌, ◌*◌, List, [], ◌∷◌, Bool, cond, ◌&&◌, length, drop, ltb, leb, Option, Some, None}
 use Rattle.text.specs.Quoted.{ascii}
 use Rattle.text.specs.Bytes.{all, begins}
-use Rattle.text.specs.declared.Found.{Found}
-use Rattle.text.specs.declared.Found.TheVariants.{Number, Nothing}
 
 -- an ASCII digit
 abbrev pub is_digit : ℕ → Bool
@@ -23,8 +21,8 @@ abbrev pub nat_of : List ℕ → ℕ
 nat_of s = nat_from 0 s
 
 -- one or more digits, leading zeros among them: a number up to `most`
-abbrev pub digits_up_to : ℕ → List ℕ → Found
-digits_up_to most s = cond (ltb 0 (length s) && (all_digits s && leb (nat_of s) most)) (Number (nat_of s)) Nothing
+abbrev pub digits_up_to : ℕ → List ℕ → Option ℕ
+digits_up_to most s = cond (ltb 0 (length s) && (all_digits s && leb (nat_of s) most)) (Some (nat_of s)) None
 
 -- a `+` stands first
 abbrev pub has_plus : List ℕ → Bool
@@ -35,5 +33,5 @@ abbrev pub plus_width : List ℕ → ℕ
 plus_width s = cond (has_plus s) 1 0
 
 -- the same after one `+` or none
-unfoldable pub number_up_to : ℕ → List ℕ → Found
+unfoldable pub number_up_to : ℕ → List ℕ → Option ℕ
 number_up_to most s = digits_up_to most (drop (plus_width s) s)

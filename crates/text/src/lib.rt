@@ -6,27 +6,11 @@ ghost use Rattle.std.specs.Prelude.{◌≡◌, min, length, take, drop};
 ghost use Rattle.text.specs.Bytes.{begins, ends, same, place, part};
 ghost use Rattle.text.specs.Digits.{is_digit, all_digits, has_plus, plus_width, digits_up_to, number_up_to};
 
-// A number, or none.
-#[derive(Clone, Copy)]
-pub enum Found {
-    Number(u64),
-    Nothing,
-}
-
-fn wide(x: u8) -> u64
-    ensures { result ≡ x }
-{
-    x as u64
-}
-
 // A place in a text, or its end if the place is past it.
 fn capped(s: &[u8], at: usize) -> usize
     ensures { result ≡ min at (length s.now) }
 {
-    if s.len() < at {
-        return s.len();
-    }
-    at
+    at.min(s.len())
 }
 
 // What stands from a place on: nothing past the end.
@@ -56,102 +40,63 @@ pub fn between(s: &[u8], from: usize, count: usize) -> &[u8]
 pub fn begins_at(s: &[u8], at: usize, text: &[u8]) -> bool
     ensures { result ≡ begins text.now (drop at s.now) }
 {
-    let rest = tail(s, at);
-    if rest.len() < text.len() {
-        return false;
-    }
-    let mut j = 0;
-    while j < text.len() {
-        if rest[j] != text[j] {
-            return false;
-        }
-        j += 1;
-    }
-    true
+    tail(s, at).starts_with(text)
 }
 
 pub fn ends_with(s: &[u8], text: &[u8]) -> bool
     ensures { result ≡ ends text.now s.now }
 {
-    if s.len() < text.len() {
-        return false;
-    }
-    begins_at(s, s.len() - text.len(), text)
+    s.ends_with(text)
 }
 
 pub fn same_bytes(s: &[u8], text: &[u8]) -> bool
     ensures { result ≡ same text.now s.now }
 {
-    if s.len() != text.len() {
-        return false;
-    }
-    begins_at(s, 0, text)
+    s == text
 }
 
 // The first place of the text, or the length.
 pub fn find(s: &[u8], text: &[u8]) -> usize
     ensures { result ≡ place text.now s.now }
 {
-    let mut i = 0;
-    while i < s.len() {
+    for i in 0..s.len() {
         if begins_at(s, i, text) {
             return i;
         }
-        i += 1;
     }
-    i
+    s.len()
 }
 
 pub fn is_digit(b: u8) -> bool
     ensures { result ≡ is_digit b }
 {
-    if b < 48 {
-        return false;
-    }
-    b <= 57
+    b.is_ascii_digit()
 }
 
 pub fn all_digits(s: &[u8]) -> bool
     ensures { result ≡ all_digits s.now }
 {
-    let mut i = 0;
-    while i < s.len() {
-        if !is_digit(s[i]) {
-            return false;
-        }
-        i += 1;
-    }
-    true
+    s.iter().all(|b| is_digit(*b))
 }
 
 // One or more digits, a number up to `most`.
-pub fn digits_up_to(s: &[u8], most: u64) -> Found
+pub fn digits_up_to(s: &[u8], most: u64) -> Option<u64>
     ensures { result ≡ digits_up_to most s.now }
 {
-    if s.len() == 0 {
-        return Found::Nothing;
+    if s.is_empty() {
+        return None;
     }
     let mut n: u64 = 0;
-    let mut i = 0;
-    while i < s.len() {
-        let b = s[i];
-        if b < 48 {
-            return Found::Nothing;
+    for b in s {
+        if !is_digit(*b) {
+            return None;
         }
-        if 57 < b {
-            return Found::Nothing;
+        n = n.checked_mul(10)?.checked_add(u64::from(*b - b'0'))?;
+        if most < n {
+            return None;
         }
-        let d = wide(b) - 48;
-        if most < d {
-            return Found::Nothing;
-        }
-        if (most - d) / 10 < n {
-            return Found::Nothing;
-        }
-        n = n * 10 + d;
-        i += 1;
     }
-    Found::Number(n)
+    Some(n)
 }
 
 fn has_plus(s: &[u8]) -> bool
@@ -164,16 +109,12 @@ fn has_plus(s: &[u8]) -> bool
 pub fn plus_width(s: &[u8]) -> usize
     ensures { result ≡ plus_width s.now }
 {
-    if has_plus(s) {
-        return 1;
-    }
-    0
+    usize::from(has_plus(s))
 }
 
 // The same after one `+` or none.
-pub fn number_up_to(s: &[u8], most: u64) -> Found
+pub fn number_up_to(s: &[u8], most: u64) -> Option<u64>
     ensures { result ≡ number_up_to most s.now }
 {
-    let from = plus_width(s);
-    digits_up_to(tail(s, from), most)
+    digits_up_to(tail(s, plus_width(s)), most)
 }

@@ -1,7 +1,8 @@
 -- Demand 3, at the bytes that the public functions take and write. Assumes nothing.
-use Rattle.std.specs.Prelude.{◌≡◌, refl, List, ◌↔◌, ℕ, ◌≤◌, length, take}
+use Rattle.std.specs.Prelude.{◌≡◌, refl, List, ◌↔◌, ℕ, ◌≤◌, length, take, Result, Ok, Err, Some, None, Option}
 use Rattle.std.proofs.Common.{sym, ap, ◌∙◌, subst, arith}
-use Rattle.refusal.specs.Result.{Result, ok, refused, then, map_ok, refused≢ok}
+use Rattle.refusal.specs.declared.Refusal.{Refusal}
+use Rattle.refusal.specs.Result.{then, map_ok, err≢ok}
 use Rattle.status.specs.declared.StatusKind.{StatusKind}
 use Rattle.grammar.specs.Expr.{Expr}
 use Rattle.grammar.specs.Print.{in_bytes, printed}
@@ -14,7 +15,7 @@ use Rattle.grammar.proofs.Theorems as grammar
 use Rattle.grammar.specs.Theorems.{WasRead, as_expression, after_status}
 use Rattle.grammar.proofs.Theorems.{read_fits, flat_fits, tree_of_bytes}
 use Rattle.semantics.specs.Presence.{oracle_of}
-use Rattle.grammar.specs.Outcome.{Written, Outcome, answer_of, written_of, with_length, parse_answer, display_answer, StatusSaid, word_alone, with_tree, with_status, stated_bytes, status_answer, accepted}
+use Rattle.grammar.specs.Outcome.{Written, Outcome, answer_of, written_of, with_length, parse_answer, display_answer, StatusSaid, with_status, stated_bytes, status_answer, accepted}
 use Rattle.grammar.proofs.Outcome.{answer_fits, written_fits, answer_short, written_short, written_back}
 use Rattle.semantics.specs.Truth.{counts_on}
 use Rattle.semantics.specs.Answers.{eval_answer, truth_answer, violations_answer, eval_and_truth_answer, pakete_answer}
@@ -24,35 +25,37 @@ use Rattle.theorems.specs.Demand3.{Held, by_expression, by_status, IsHeld, flat_
 -- Where the trees come from.
 
 -- a tree that `Expr::parse` writes is the bytes of an expression that was read
-pub parse-read : (s : List ℕ) (w : Written ℕ) → parse_answer s ≡ ok w → (e : Expr) × WasRead e × (w ≡ with_length (bytes_of e))
+pub parse-read : (s : List ℕ) (w : Written ℕ) → parse_answer s ≡ Ok w → (e : Expr) × WasRead e × (w ≡ with_length (bytes_of e))
 unfolding parse_answer map_ok
 parse-read s w h = go (reading s) refl h
   where
-    go : (r : Result Expr) → reading s ≡ r → map_ok (λ e. with_length (bytes_of e)) r ≡ ok w → (e : Expr) × WasRead e × (w ≡ with_length (bytes_of e))
-    go (ok e) q k = let same : with_length (bytes_of e) ≡ w = cc in (e, as_expression s e q, sym same)
-    go (refused n) q k = absurd (refused≢ok k)
+    go : (r : Result Expr Refusal) → reading s ≡ r → map_ok (λ e. with_length (bytes_of e)) r ≡ Ok w → (e : Expr) × WasRead e × (w ≡ with_length (bytes_of e))
+    go (Ok e) q k = let same : with_length (bytes_of e) ≡ w = cc in (e, as_expression s e q, sym same)
+    go (Err n) q k = absurd (err≢ok k)
 
 -- and so is one that `Status::parse` writes after a word
-pub status_read : (s : List ℕ) (k : StatusKind) (n : ℕ) (b : List ℕ) → status_answer s ≡ ok (record { answer = with_tree k n; bytes = b })
+pub status_read : (s : List ℕ) (k : StatusKind) (n : ℕ) (b : List ℕ) → status_answer s ≡ Ok (record { answer = (k, Some n); bytes = b })
     → (e : Expr) × WasRead e × (n ≡ length (bytes_of e)) × (b ≡ bytes_of e)
 unfolding status_answer map_ok
 status_read s k n b h = go (status_reading s) refl h
   where
-    go : (r : Result Stated) → status_reading s ≡ r → map_ok stated_bytes r ≡ ok (record { answer = with_tree k n; bytes = b })
+    go : (r : Result Stated Refusal) → status_reading s ≡ r → map_ok stated_bytes r ≡ Ok (record { answer = (k, Some n); bytes = b })
         → (e : Expr) × WasRead e × (n ≡ length (bytes_of e)) × (b ≡ bytes_of e)
-    go (ok (stated j e)) q p =
-        let same : with_status j (bytes_of e) ≡ record { answer = with_tree k n; bytes = b } = cc in
-        let said : with_tree j (length (bytes_of e)) ≡ with_tree k n = ap (λ w. w.answer) same in
+    go (Ok (stated j e)) q p =
+        let same : with_status j (bytes_of e) ≡ record { answer = (k, Some n); bytes = b } = cc in
+        let said : ◌≡◌ {A = StatusSaid} (j, Some (length (bytes_of e))) (k, Some n) = ap (λ w. w.answer) same in
+        let some : ◌≡◌ {A = Option ℕ} (Some (length (bytes_of e))) (Some n) = ap (λ (x : StatusSaid). x.1) said in
         let size : length (bytes_of e) ≡ n = cc in
         (e, after_status s j e q, sym size, sym (ap (λ w. w.bytes) same))
-    go (ok (alone j)) q p =
-        let same : stated_bytes (alone j) ≡ record { answer = with_tree k n; bytes = b } = cc in
-        let said : word_alone j ≡ with_tree k n = ap (λ w. w.answer) same in
+    go (Ok (alone j)) q p =
+        let same : stated_bytes (alone j) ≡ record { answer = (k, Some n); bytes = b } = cc in
+        let said : ◌≡◌ {A = StatusSaid} (j, None) (k, Some n) = ap (λ w. w.answer) same in
+        let none : ◌≡◌ {A = Option ℕ} None (Some n) = ap (λ (x : StatusSaid). x.1) said in
         let z : ◌≡◌ {A = ℕ} 0 1 = cc in
         absurd (omega arith)
-    go (refused m) q p = absurd (refused≢ok p)
+    go (Err m) q p = absurd (err≢ok p)
 
-expression_held : (s buffer : List ℕ) (n : ℕ) → answer_of (parse_answer s) (length buffer) ≡ ok n → IsHeld (take n (written_of (parse_answer s) buffer))
+expression_held : (s buffer : List ℕ) (n : ℕ) → answer_of (parse_answer s) (length buffer) ≡ Ok n → IsHeld (take n (written_of (parse_answer s) buffer))
 expression_held s buffer n h =
     let a = accepted (parse_answer s) (length buffer) n h in
     let r = parse-read s (record { answer = n; bytes = a.bytes }) a.came in
@@ -60,24 +63,24 @@ expression_held s buffer n h =
     let size : n ≡ length (bytes_of e) = ap (λ w. w.answer) r.2 in
     let same : a.bytes ≡ bytes_of e = ap (λ w. w.bytes) r.2 in
     let room : length (bytes_of e) ≤ length buffer = omega (arith, ap length same, a.room) in
-    let came : parse_answer s ≡ ok (with_length (bytes_of e)) = a.came ∙ ap ok r.2 in
+    let came : parse_answer s ≡ Ok (with_length (bytes_of e)) = a.came ∙ ap Ok r.2 in
     record {
       expr = e;
       was_read = r.1;
       is = ap (λ (i : ℕ). take i (written_of (parse_answer s) buffer)) size ∙ ap (λ o. take (length (bytes_of e)) (written_of o buffer)) came ∙ written_back (with_length (bytes_of e)) buffer room;
     }
 
-status_held : (s buffer : List ℕ) (k : StatusKind) (n : ℕ) → answer_of (status_answer s) (length buffer) ≡ ok (with_tree k n) → IsHeld (take n (written_of (status_answer s) buffer))
+status_held : (s buffer : List ℕ) (k : StatusKind) (n : ℕ) → answer_of (status_answer s) (length buffer) ≡ Ok (k, Some n) → IsHeld (take n (written_of (status_answer s) buffer))
 status_held s buffer k n h =
-    let a = accepted (status_answer s) (length buffer) (with_tree k n) h in
+    let a = accepted (status_answer s) (length buffer) (k, Some n) h in
     let r = status_read s k n a.bytes a.came in
     let e = r.0 in
     let size : n ≡ length (bytes_of e) = r.2 in
     let same : a.bytes ≡ bytes_of e = r.3 in
     let room : length (bytes_of e) ≤ length buffer = omega (arith, ap length same, a.room) in
-    let said : with_tree k n ≡ with_tree k (length (bytes_of e)) = ap (with_tree k) size in
+    let said : (k, Some n) ≡ (k, Some (length (bytes_of e))) = ap (λ n. (k, Some n)) size in
     let w : Written StatusSaid = with_status k (bytes_of e) in
-    let came : status_answer s ≡ ok w = a.came ∙ ap (λ (x : StatusSaid). ok (record { answer = x; bytes = a.bytes })) said ∙ ap (λ (x : List ℕ). ok (record { answer = with_tree k (length (bytes_of e)); bytes = x })) same in
+    let came : status_answer s ≡ Ok w = a.came ∙ ap (λ (x : StatusSaid). Ok (record { answer = x; bytes = a.bytes })) said ∙ ap (λ (x : List ℕ). Ok (record { answer = (k, Some (length (bytes_of e))); bytes = x })) same in
     record {
       expr = e;
       was_read = r.1;
@@ -90,7 +93,7 @@ held_is t (by_expression s buffer n h) = expression_held s buffer n h
 held_is t (by_status s buffer k n h) = status_held s buffer k n h
 
 -- by its outcome
-pub writes : (o : Outcome ℕ) (b : List ℕ) → o ≡ ok (with_length b) → Writes o b
+pub writes : (o : Outcome ℕ) (b : List ℕ) → o ≡ Ok (with_length b) → Writes o b
 writes o b h = record {
   answer = λ buffer l. ap (λ x. answer_of x (length buffer)) h ∙ answer_fits (with_length b) (length buffer) l;
   bytes = λ buffer l. ap (λ x. written_of x buffer) h ∙ written_fits (with_length b) buffer l;
@@ -99,11 +102,11 @@ writes o b h = record {
 }
 
 module _ (e : Expr) (w : WasRead e) where
-  shown_is : display_answer (bytes_of e) ≡ ok (with_length (printed e))
+  shown_is : display_answer (bytes_of e) ≡ Ok (with_length (printed e))
   unfolding display_answer map_ok
   shown_is = rw (tree_of_bytes e (read_fits e w))
 
-  again_is : parse_answer (printed e) ≡ ok (with_length (bytes_of (flat e)))
+  again_is : parse_answer (printed e) ≡ Ok (with_length (bytes_of (flat e)))
   unfolding parse_answer map_ok
   again_is = rw (grammar.read-printed e w)
 
@@ -124,10 +127,10 @@ printed_alike a b v w =
     let shown_a = shown_is a v in
     let shown_b = shown_is b w in
     let same = grammar.printed_alike a b v w in (
-      λ h. let ends : ok (with_length (printed a)) ≡ ok (with_length (printed b)) = sym shown_a ∙ h ∙ shown_b in
+      λ h. let ends : Ok (with_length (printed a)) ≡ Ok (with_length (printed b)) = sym shown_a ∙ h ∙ shown_b in
           let one : with_length (printed a) ≡ with_length (printed b) = cc in
           same.0 (ap (λ x. x.bytes) one),
-      λ h. shown_a ∙ ap (λ p. ok (with_length p)) (same.1 h) ∙ sym shown_b,
+      λ h. shown_a ∙ ap (λ p. Ok (with_length p)) (same.1 h) ∙ sym shown_b,
     )
 
 module _ {A : Type 0} (o p : Outcome A) (h : o ≡ p) (x y : List ℕ) (l : length x ≡ length y) where
@@ -148,10 +151,10 @@ module _ {A : Type 0} (o p : Outcome A) (h : o ≡ p) (x y : List ℕ) (l : leng
       }
 
 module _ (e : Expr) (f : Fits e) where
-  flat_is : tree_of (bytes_of (flat e)) ≡ ok (flat e)
+  flat_is : tree_of (bytes_of (flat e)) ≡ Ok (flat e)
   flat_is = tree_of_bytes (flat e) (flat_fits e f)
 
-  tree_is : tree_of (bytes_of e) ≡ ok e
+  tree_is : tree_of (bytes_of e) ≡ Ok e
   tree_is = tree_of_bytes e f
 
   eval_flat : (answers : List ℕ) → eval_answer (bytes_of (flat e)) answers ≡ eval_answer (bytes_of e) answers
@@ -190,7 +193,7 @@ pub flat_agrees : (e : Expr) → WasRead e → AnswersAlike (bytes_of (flat e)) 
 flat_agrees e w = fitting_flat_agrees e (read_fits e w)
 
 module _ (e : Expr) (w : WasRead e) where
-  flat_of : flat_tree (bytes_of e) ≡ ok (bytes_of (flat e))
+  flat_of : flat_tree (bytes_of e) ≡ Ok (bytes_of (flat e))
   unfolding flat_tree map_ok
   flat_of = rw (tree_of_bytes e (read_fits e w))
 
@@ -198,11 +201,11 @@ module _ (e : Expr) (w : WasRead e) where
   unfolding display_answer map_ok
   flat_shown = rw (flat_is e (read_fits e w), tree_is e (read_fits e w), print_flat in_bytes e (read_fits e w).wide)
 
-  reads_again : (buffer : List ℕ) (n : ℕ) → answer_of (display_answer (bytes_of e)) (length buffer) ≡ ok n
+  reads_again : (buffer : List ℕ) (n : ℕ) → answer_of (display_answer (bytes_of e)) (length buffer) ≡ Ok n
       → Writes (parse_answer (take n (written_of (display_answer (bytes_of e)) buffer))) (bytes_of (flat e))
   reads_again buffer n h =
       let a = accepted (display_answer (bytes_of e)) (length buffer) n h in
-      let one : ok (with_length (printed e)) ≡ ok (record { answer = n; bytes = a.bytes }) = sym (shown_is e w) ∙ a.came in
+      let one : Ok (with_length (printed e)) ≡ Ok (record { answer = n; bytes = a.bytes }) = sym (shown_is e w) ∙ a.came in
       let same : with_length (printed e) ≡ record { answer = n; bytes = a.bytes } = cc in
       let size : length (printed e) ≡ n = ap (λ x. x.answer) same in
       let room : length (printed e) ≤ length buffer = omega (arith, ap (λ x. length x.bytes) same, a.room) in
@@ -229,10 +232,10 @@ held_alike a b h g =
     let k = held_is a h in
     let l = held_is b g in
     let same = printed_alike k.expr l.expr k.was_read l.was_read in
-    let fa : flat_tree a ≡ ok (bytes_of (flat k.expr)) = ap flat_tree k.is ∙ flat_of k.expr k.was_read in
-    let fb : flat_tree b ≡ ok (bytes_of (flat l.expr)) = ap flat_tree l.is ∙ flat_of l.expr l.was_read in (
-      λ q. fa ∙ ap ok (same.0 (sym (ap display_answer k.is) ∙ q ∙ ap display_answer l.is)) ∙ sym fb,
-      λ q. let one : ok (bytes_of (flat k.expr)) ≡ ok (bytes_of (flat l.expr)) = sym fa ∙ q ∙ fb in
+    let fa : flat_tree a ≡ Ok (bytes_of (flat k.expr)) = ap flat_tree k.is ∙ flat_of k.expr k.was_read in
+    let fb : flat_tree b ≡ Ok (bytes_of (flat l.expr)) = ap flat_tree l.is ∙ flat_of l.expr l.was_read in (
+      λ q. fa ∙ ap Ok (same.0 (sym (ap display_answer k.is) ∙ q ∙ ap display_answer l.is)) ∙ sym fb,
+      λ q. let one : Ok (bytes_of (flat k.expr)) ≡ Ok (bytes_of (flat l.expr)) = sym fa ∙ q ∙ fb in
           let two : bytes_of (flat k.expr) ≡ bytes_of (flat l.expr) = cc in
           ap display_answer k.is ∙ same.1 two ∙ sym (ap display_answer l.is),
     )

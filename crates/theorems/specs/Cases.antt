@@ -1,7 +1,8 @@
 -- The cases P1 to P12 (document 01's numbering): one list, one proof. Assumes nothing.
-use Rattle.std.specs.Prelude.{◌≡◌, refl, List, [], ◌∷◌, ℕ, get_or}
+use Rattle.std.specs.Prelude.{◌≡◌, refl, List, [], ◌∷◌, ℕ, get_or, Result, Ok, Err}
 use Prim.Native.String.{String}
-use Rattle.refusal.specs.Result.{Result, ok, refuse, then, map_ok}
+use Rattle.refusal.specs.declared.Refusal.{Refusal}
+use Rattle.refusal.specs.Result.{then, map_ok}
 use Rattle.refusal.specs.declared.Refusal.TheVariants.{ChoiceOverNeutral, NoRoom}
 use Rattle.text.specs.Digits.{number_up_to}
 use Rattle.utf8.specs.Utf8.{is_utf8, decode, encode_char, lead_of}
@@ -36,23 +37,23 @@ use Rattle.semantics.specs.Answers.{eval_answer}
 
 -- what is said in a case: what a text reads as, the print of what it reads as, its presence by answer bytes, the answer of `parse` into a buffer, a verdict, a kind
 pub data Said : Type 0 where
-  reads : Result Expr → Said
-  prints : Result (List ℕ) → Said
-  presence_is : Result Truth → Said
-  fits : Result ℕ → Said
-  verdict_is : Result FormatVerdict → Said
-  kind_is : Result ConditionKind → Said
+  reads : Result Expr Refusal → Said
+  prints : Result (List ℕ) Refusal → Said
+  presence_is : Result Truth Refusal → Said
+  fits : Result ℕ Refusal → Said
+  verdict_is : Result FormatVerdict Refusal → Said
+  kind_is : Result ConditionKind Refusal → Said
 
 -- the bytes that `display` writes for what a text reads as
-abbrev pub print_of : String → Result (List ℕ)
+abbrev pub print_of : String → Result (List ℕ) Refusal
 print_of t = then (reading (bytes t)) (λ e. map_ok (λ w. w.bytes) (display_answer (bytes_of e)))
 
 -- what `eval` answers on what a text reads as
-abbrev pub presence_of : String → List ℕ → Result Truth
+abbrev pub presence_of : String → List ℕ → Result Truth Refusal
 presence_of t answers = then (reading (bytes t)) (λ e. eval_answer (bytes_of e) answers)
 
 -- the kind of the first citation of what a text reads as
-abbrev pub kind_in : String → Result ConditionKind
+abbrev pub kind_in : String → Result ConditionKind Refusal
 kind_in t = then (reading (bytes t)) (λ e. kind_answer (get_or (citations e) 0 []))
 
 abbrev c : String → Expr
@@ -65,35 +66,35 @@ verdict_on t v = verdict_is (verdict_answer (bytes t) (bytes v))
 abbrev pub cases : List (Said × Said)
 cases =
     -- P1
-    (reads (reading (bytes "[1] ∧ [2] ∨ [3]")), reads (ok (join Or (join And (c "1" ◂ c "2" ◂ none) ◂ c "3" ◂ none))))
+    (reads (reading (bytes "[1] ∧ [2] ∨ [3]")), reads (Ok (join Or (join And (c "1" ◂ c "2" ◂ none) ◂ c "3" ◂ none))))
     -- P2
-    ∷ (reads (reading (bytes "([1] ⊻ [2]) ⊻ [3]")), reads (ok (join Xor (c "1" ◂ c "2" ◂ c "3" ◂ none))))
+    ∷ (reads (reading (bytes "([1] ⊻ [2]) ⊻ [3]")), reads (Ok (join Xor (c "1" ◂ c "2" ◂ c "3" ◂ none))))
     -- P3
-    ∷ (prints (print_of "([1] [2]) [3]"), prints (ok (bytes "[1] [2] [3]")))
+    ∷ (prints (print_of "([1] [2]) [3]"), prints (Ok (bytes "[1] [2] [3]")))
     -- P4
-    ∷ (presence_is (presence_of "[1] ⊻ [2] ⊻ [3]" (2 ∷ 2 ∷ 1 ∷ [])), presence_is (ok False))
+    ∷ (presence_is (presence_of "[1] ⊻ [2] ⊻ [3]" (2 ∷ 2 ∷ 1 ∷ [])), presence_is (Ok False))
     -- P5
-    ∷ (presence_is (presence_of "[500] ∨ [1]" (4 ∷ 2 ∷ [])), presence_is (ok True))
+    ∷ (presence_is (presence_of "[500] ∨ [1]" (4 ∷ 2 ∷ [])), presence_is (Ok True))
     -- P6
-    ∷ (presence_is (presence_of "[1] ∨ [1000]" (2 ∷ 2 ∷ [])), presence_is (refuse ChoiceOverNeutral))
+    ∷ (presence_is (presence_of "[1] ∨ [1000]" (2 ∷ 2 ∷ [])), presence_is (Err ChoiceOverNeutral))
     -- P7
-    ∷ (fits (answer_of (parse_answer (bytes "[1]")) 23), fits (ok 23))
-    ∷ (fits (answer_of (parse_answer (bytes "[1]")) 22), fits (refuse NoRoom))
+    ∷ (fits (answer_of (parse_answer (bytes "[1]")) 23), fits (Ok 23))
+    ∷ (fits (answer_of (parse_answer (bytes "[1]")) 22), fits (Err NoRoom))
     -- P8
-    ∷ (verdict_on "926" "-0.00", verdict_is (ok Holds))
+    ∷ (verdict_on "926" "-0.00", verdict_is (Ok Holds))
     -- P9
-    ∷ (verdict_on "913" "99999", verdict_is (ok Holds))
-    ∷ (verdict_on "913" "1.5", verdict_is (ok Violated))
-    ∷ (verdict_on "913" "100000", verdict_is (ok Violated))
+    ∷ (verdict_on "913" "99999", verdict_is (Ok Holds))
+    ∷ (verdict_on "913" "1.5", verdict_is (Ok Violated))
+    ∷ (verdict_on "913" "100000", verdict_is (Ok Violated))
     -- P10
-    ∷ (verdict_on "937" "5.0", verdict_is (ok Holds))
+    ∷ (verdict_on "937" "5.0", verdict_is (Ok Holds))
     -- P11
-    ∷ (verdict_on "UB1" "202603282300+00", verdict_is (ok Holds))
-    ∷ (verdict_on "UB1" "202603292200+00", verdict_is (ok Holds))
-    ∷ (verdict_on "UB1" "202603292300+00", verdict_is (ok Violated))
+    ∷ (verdict_on "UB1" "202603282300+00", verdict_is (Ok Holds))
+    ∷ (verdict_on "UB1" "202603292200+00", verdict_is (Ok Holds))
+    ∷ (verdict_on "UB1" "202603292300+00", verdict_is (Ok Violated))
     -- P12
-    ∷ (kind_is (kind_in "[+5]"), kind_is (ok Voraussetzung))
-    ∷ (kind_is (kind_in "[ 5]"), kind_is (ok Other))
+    ∷ (kind_is (kind_in "[+5]"), kind_is (Ok Voraussetzung))
+    ∷ (kind_is (kind_in "[ 5]"), kind_is (Ok Other))
     ∷ []
 
 -- what the definitions say, in order

@@ -1,19 +1,17 @@
 -- Demand 1: what a call leaves in lent memory, and that every byte string gets an answer or a numbered refusal. Every public function that
 -- takes a buffer promises `answer_of` and `written_of` of one outcome, so what is said of all outcomes here is said of each of them. Assumes nothing.
-use Rattle.std.specs.Prelude.{◌≡◌, refl, List, [], ◌∷◌, ◌++◌, Bool, true, false, ◌&&◌, ◌⊎◌, ℕ, ◌+◌, ◌<◌, leb, ltb, eqb, length, take, drop}
+use Rattle.std.specs.Prelude.{◌≡◌, refl, List, [], ◌∷◌, ◌++◌, Bool, true, false, ◌&&◌, ◌⊎◌, ℕ, ◌+◌, ◌<◌, leb, ltb, eqb, length, take, drop, Ok, Err, Option, Some, None}
 use Rattle.std.proofs.Common.{sym, ◌∙◌, subst, inl, inr, arith}
 use Rattle.std.proofs.Math.Path.{ap}
 use Rattle.std.proofs.lemmas.Bool.{lt-leb}
 use Rattle.laws.specs.Tests.{cond_both}
-use Rattle.refusal.specs.Result.{ok, refused, refuse, then, map_ok}
+use Rattle.refusal.specs.Result.{then, map_ok}
 use Rattle.refusal.specs.declared.Refusal.{Refusal}
 use Rattle.refusal.specs.declared.Refusal.TheVariants.{TooManyCitations, WrongAnswers, NotAPaket}
 use Rattle.refusal.specs.Known.{Known, unless-among, among_known, map_known, then_known}
 use Rattle.text.specs.Quoted.{ascii}
 use Rattle.text.specs.Bytes.{same, place, has}
 use Rattle.text.specs.Digits.{all_digits, number_up_to}
-use Rattle.text.specs.declared.Found.{Found}
-use Rattle.text.specs.declared.Found.TheVariants.{Number, Nothing}
 use Rattle.utf8.specs.Utf8.{is_utf8, decode, encode}
 use Rattle.utf8.specs.Limits.{text_limit, value_limit, admitted}
 use Rattle.citation.specs.Kinds.{kind_of, kind_answer}
@@ -44,24 +42,24 @@ use Rattle.ahb.specs.Sizes.{Short, ShortStatus, Few, answer_among, parse-among, 
 
 module _ {A : Type 0} (o : Outcome A) (buffer : List ℕ) where
   -- whatever is refused leaves the buffer's bytes as they were
-  pub refused_keeps : (k : ℕ) → answer_of o (length buffer) ≡ refused k → written_of o buffer ≡ buffer
-  refused_keeps k h = outcome.refused_keeps o buffer k h
+  pub refused_keeps : (why : Refusal) → answer_of o (length buffer) ≡ Err why → written_of o buffer ≡ buffer
+  refused_keeps why h = outcome.refused_keeps o buffer why h
 
   -- what an accepted call wrote: bytes of its outcome alone, and after them the buffer's own
   pub record Wrote (a : A) : Type 0 where
     pub bytes : List ℕ
-    pub came : o ≡ ok (record { answer = a; bytes = bytes })
+    pub came : o ≡ Ok (record { answer = a; bytes = bytes })
     pub stands : written_of o buffer ≡ bytes ++ drop (length bytes) buffer
 
   -- whatever is accepted leaves what it wrote, and no other byte changed
-  pub accepted_writes : (a : A) → answer_of o (length buffer) ≡ ok a → Wrote a
+  pub accepted_writes : (a : A) → answer_of o (length buffer) ≡ Ok a → Wrote a
   accepted_writes a h =
       let k = outcome.accepted o (length buffer) a h in
       let w : Written A = record { answer = a; bytes = k.bytes } in
       record { bytes = k.bytes; came = k.came; stands = ap (λ (x : Outcome A). written_of x buffer) k.came ∙ written_fits w buffer k.room }
 
   -- a call that is refused before the buffer is looked at: the number, and the bytes as they were
-  pub turned_back : (why : Refusal) → o ≡ refuse why → (answer_of o (length buffer) ≡ refuse why) × (written_of o buffer ≡ buffer)
+  pub turned_back : (why : Refusal) → o ≡ Err why → (answer_of o (length buffer) ≡ Err why) × (written_of o buffer ≡ buffer)
   unfolding answer_of written_of then
   turned_back why h = (ap (λ (x : Outcome A). answer_of x (length buffer)) h, ap (λ (x : Outcome A). written_of x buffer) h)
 
@@ -87,17 +85,17 @@ some_many [] (inl h) = absurd (omega (arith, h))
 some_many [] (inr h) = absurd (omega (arith, h))
 some_many (t ∷ ts) h = refl
 
-many-expression : (cs : List ℕ) (ts : List Tok) → lex cs ≡ ok ts → TooMany ts → expression cs ≡ refuse TooManyCitations
+many-expression : (cs : List ℕ) (ts : List Tok) → lex cs ≡ Ok ts → TooMany ts → expression cs ≡ Err TooManyCitations
 unfolding expression tree then
 many-expression cs ts x h = rw (x, some_many ts h, many-few ts h)
 
 -- an expression with too many citations is refused by 12, whatever the buffer, and no byte of it changes
-pub many_refused : (s : List ℕ) (ts : List Tok) → leb (length s) text_limit ≡ true → is_utf8 s ≡ true → lex (decode s) ≡ ok ts → TooMany ts
-    → (buffer : List ℕ) → (answer_of (parse_answer s) (length buffer) ≡ refuse TooManyCitations) × (written_of (parse_answer s) buffer ≡ buffer)
+pub many_refused : (s : List ℕ) (ts : List Tok) → leb (length s) text_limit ≡ true → is_utf8 s ≡ true → lex (decode s) ≡ Ok ts → TooMany ts
+    → (buffer : List ℕ) → (answer_of (parse_answer s) (length buffer) ≡ Err TooManyCitations) × (written_of (parse_answer s) buffer ≡ buffer)
 unfolding parse_answer reading admitted map_ok
 many_refused s ts l u x h buffer = turned_back (parse_answer s) buffer TooManyCitations (rw (l, u, many-expression (decode s) ts x h))
 
-many-words : (k : StatusKind) (ws : List (List ℕ)) (ts : List Tok) → lex (joined ws) ≡ ok ts → TooMany ts → after_word k ws ≡ refuse TooManyCitations
+many-words : (k : StatusKind) (ws : List (List ℕ)) (ts : List Tok) → lex (joined ws) ≡ Ok ts → TooMany ts → after_word k ws ≡ Err TooManyCitations
 unfolding after_word map_ok joined lex texts concat
 many-words k [] ts x h =
     let same : [] ≡ ts = cc in
@@ -110,8 +108,8 @@ many-words k (w ∷ ws) ts x h = rw (many-expression (joined (w ∷ ws)) ts x h)
 
 -- and so is a status whose words after the first have too many
 pub status_many_refused : (s w : List ℕ) (ws : List (List ℕ)) (k : StatusKind) (ts : List Tok) → leb (length s) text_limit ≡ true → is_utf8 s ≡ true
-    → words (decode s) ≡ w ∷ ws → kind_of_word (encode w) ≡ ok k → lex (joined ws) ≡ ok ts → TooMany ts
-    → (buffer : List ℕ) → (answer_of (status_answer s) (length buffer) ≡ refuse TooManyCitations) × (written_of (status_answer s) buffer ≡ buffer)
+    → words (decode s) ≡ w ∷ ws → kind_of_word (encode w) ≡ Ok k → lex (joined ws) ≡ Ok ts → TooMany ts
+    → (buffer : List ℕ) → (answer_of (status_answer s) (length buffer) ≡ Err TooManyCitations) × (written_of (status_answer s) buffer ≡ buffer)
 unfolding status_answer status_reading admitted of_words then map_ok
 status_many_refused s w ws k ts l u split known x h buffer =
     turned_back (status_answer s) buffer TooManyCitations (rw (l, u, split, known, many-words k ws ts x h))
@@ -167,25 +165,25 @@ cited_numbered tree number = map_known (cited_place number) (tree_of tree) (tree
 
 -- `ConditionKind::of`
 pub kind_numbered : (text : List ℕ) → Known (kind_answer text)
-kind_numbered text = admitted-among (λ _. Unit {0}) text_limit text (ok (kind_of text)) tt
+kind_numbered text = admitted-among (λ _. Unit {0}) text_limit text (Ok (kind_of text)) tt
 
 -- `evaluate`
 pub verdict-numbered : (text value : List ℕ) → Known (verdict_answer text value)
-verdict-numbered text value = admitted-among (λ _. Unit {0}) text_limit text _ (admitted-among (λ _. Unit {0}) value_limit value (ok (verdict text value)) tt)
+verdict-numbered text value = admitted-among (λ _. Unit {0}) text_limit text _ (admitted-among (λ _. Unit {0}) value_limit value (Ok (verdict text value)) tt)
 
 -- `is_registered`
 pub registered_numbered : (text : List ℕ) → Known (registered_answer text)
-registered_numbered text = admitted-among (λ _. Unit {0}) text_limit text (ok (is_registered text)) tt
+registered_numbered text = admitted-among (λ _. Unit {0}) text_limit text (Ok (is_registered text)) tt
 
-high_known : (name low : ℕ) (found : Found) → Known (high_of name low found)
-high_known name low (Number high) = tt
-high_known name low Nothing = (NotAPaket, refl)
+high_known : (name low : ℕ) (found : Option ℕ) → Known (high_of name low found)
+high_known name low (Some high) = tt
+high_known name low None = (NotAPaket, refl)
 
-low_known : (name : ℕ) (found : Found) (h : List ℕ) → Known (low_of name found h)
-low_known name (Number low) h =
-    cond_both Known (same (ascii "n") h) (ok (unbounded name low)) (high_of name low (number_up_to largest_bound h)) (λ _. tt)
+low_known : (name : ℕ) (found : Option ℕ) (h : List ℕ) → Known (low_of name found h)
+low_known name (Some low) h =
+    cond_both Known (same (ascii "n") h) (Ok (unbounded name low)) (high_of name low (number_up_to largest_bound h)) (λ _. tt)
     λ _. high_known name low (number_up_to largest_bound h)
-low_known name Nothing h = (NotAPaket, refl)
+low_known name None h = (NotAPaket, refl)
 
 range_known : (name : ℕ) (r : List ℕ) → Known (range_of name r)
 unfolding range_of
@@ -195,7 +193,7 @@ range_known name r =
     unless-among (λ _. Unit {0}) (has (ascii "..") r) NotAPaket (low_of name low (drop (at + 2) r)) (low_known name low (drop (at + 2) r))
 
 bounds_known : (name : ℕ) (r : List ℕ) → Known (bounds_of name r)
-bounds_known name r = cond_both Known (eqb (length r) 0) (ok (unbounded name 0)) (range_of name r) (λ _. tt) λ _. range_known name r
+bounds_known name r = cond_both Known (eqb (length r) 0) (Ok (unbounded name 0)) (range_of name r) (λ _. tt) λ _. range_known name r
 
 paket_known : (text : List ℕ) → Known (paket_of text)
 unfolding paket_of

@@ -21,8 +21,7 @@
 -- | `ahb_read`, `ahb_presence`, `ahb_verdicts` | the number of these answers; the buffer as above | ahb: Numbers, Answers |
 --
 -- Below, what pins definitions that would otherwise have to be read as code. Assumes nothing.
-use Rattle.std.specs.Prelude.{◌≡◌, List, cond, ◌↔◌, ℕ}
-use Rattle.refusal.specs.Result.{ok}
+use Rattle.std.specs.Prelude.{◌≡◌, List, cond, ◌↔◌, ℕ, Ok}
 use Rattle.citation.specs.declared.Truth.{Truth}
 use Rattle.citation.specs.declared.Truth.TheVariants.{False, Unknown, True, Neutral}
 use Rattle.grammar.specs.Expr.{Expr}
@@ -35,7 +34,7 @@ use Rattle.semantics.proofs.Sentences as sentences
 use Rattle.semantics.specs.Sentences.{only_neutral, filled, or_of_filled, xor_of_filled}
 
 -- bytes are the tree of an expression exactly if it fits the limits and they are its bytes
-pub tree_exactly : (b : List ℕ) → IsBytes b → (e : Expr) → (tree_of b ≡ ok e) ↔ (Fits e × (bytes_of e ≡ b))
+pub tree_exactly : (b : List ℕ) → IsBytes b → (e : Expr) → (tree_of b ≡ Ok e) ↔ (Fits e × (bytes_of e ≡ b))
 tree_exactly = grammar.tree_exactly
 
 -- Then and And: False if any is, else Unknown if any is, else Neutral if all are, else True

@@ -1,6 +1,7 @@
 -- Demand 3, at the bytes that the public functions take and write: what is said. The theorems stand in proofs/Demand3. Assumes nothing.
-use Rattle.std.specs.Prelude.{◌≡◌, List, ◌++◌, ℕ, ◌≤◌, ◌<◌, length, take, drop}
-use Rattle.refusal.specs.Result.{Result, ok, refuse, map_ok}
+use Rattle.std.specs.Prelude.{◌≡◌, List, ◌++◌, ℕ, ◌≤◌, ◌<◌, length, take, drop, Result, Ok, Err, Some}
+use Rattle.refusal.specs.declared.Refusal.{Refusal}
+use Rattle.refusal.specs.Result.{map_ok}
 use Rattle.refusal.specs.declared.Refusal.TheVariants.{NoRoom}
 use Rattle.status.specs.declared.StatusKind.{StatusKind}
 use Rattle.grammar.specs.Expr.{Expr}
@@ -8,13 +9,13 @@ use Rattle.grammar.specs.Print.{printed}
 use Rattle.grammar.specs.Flat.{flat}
 use Rattle.grammar.specs.Bytes.{bytes_of, tree_of}
 use Rattle.grammar.specs.Theorems.{WasRead}
-use Rattle.grammar.specs.Outcome.{Outcome, answer_of, written_of, parse_answer, display_answer, with_tree, status_answer}
+use Rattle.grammar.specs.Outcome.{Outcome, answer_of, written_of, parse_answer, display_answer, status_answer}
 use Rattle.semantics.specs.Answers.{eval_answer, truth_answer, violations_answer, eval_and_truth_answer, pakete_answer}
 
 -- a tree that is held: the first bytes of a buffer after `Expr::parse`, or `Status::parse`, was accepted with so many
 pub data Held : List ℕ → Type 0 where
-  by_expression : (s buffer : List ℕ) (n : ℕ) → answer_of (parse_answer s) (length buffer) ≡ ok n → Held (take n (written_of (parse_answer s) buffer))
-  by_status : (s buffer : List ℕ) (k : StatusKind) (n : ℕ) → answer_of (status_answer s) (length buffer) ≡ ok (with_tree k n)
+  by_expression : (s buffer : List ℕ) (n : ℕ) → answer_of (parse_answer s) (length buffer) ≡ Ok n → Held (take n (written_of (parse_answer s) buffer))
+  by_status : (s buffer : List ℕ) (k : StatusKind) (n : ℕ) → answer_of (status_answer s) (length buffer) ≡ Ok (k, Some n)
       → Held (take n (written_of (status_answer s) buffer))
 
 -- the expression whose bytes a held tree is
@@ -24,16 +25,16 @@ pub record IsHeld (t : List ℕ) : Type 0 where
   pub is : t ≡ bytes_of expr
 
 -- the flat tree of tree bytes (a term of document 01), or 15
-unfoldable pub flat_tree : List ℕ → Result (List ℕ)
+unfoldable pub flat_tree : List ℕ → Result (List ℕ) Refusal
 flat_tree t = map_ok (λ e. bytes_of (flat e)) (tree_of t)
 
 -- Reading the print.
 
 -- a call that writes these bytes: their length and the old rest after them if the buffer holds them, else 14 and the old bytes
 pub record Writes (o : Outcome ℕ) (b : List ℕ) : Type 0 where
-  pub answer : (buffer : List ℕ) → length b ≤ length buffer → answer_of o (length buffer) ≡ ok (length b)
+  pub answer : (buffer : List ℕ) → length b ≤ length buffer → answer_of o (length buffer) ≡ Ok (length b)
   pub bytes : (buffer : List ℕ) → length b ≤ length buffer → written_of o buffer ≡ b ++ drop (length b) buffer
-  pub short : (buffer : List ℕ) → length buffer < length b → answer_of o (length buffer) ≡ refuse NoRoom
+  pub short : (buffer : List ℕ) → length buffer < length b → answer_of o (length buffer) ≡ Err NoRoom
   pub kept : (buffer : List ℕ) → length buffer < length b → written_of o buffer ≡ buffer
 
 -- the print that `display` leaves in its buffer
@@ -64,7 +65,7 @@ pub record AnswersAlike (a b : List ℕ) : Type 0 where
 -- calls of one outcome, in two buffers of equal length: the same answer, and if it is accepted the same bytes before what each buffer held
 pub record SameIn {A : Type 0} (o p : Outcome A) (x y : List ℕ) : Type 0 where
   pub answer : answer_of o (length x) ≡ answer_of p (length y)
-  pub bytes : (a : A) → answer_of o (length x) ≡ ok a → (b : List ℕ) × (written_of o x ≡ b ++ drop (length b) x) × (written_of p y ≡ b ++ drop (length b) y)
+  pub bytes : (a : A) → answer_of o (length x) ≡ Ok a → (b : List ℕ) × (written_of o x ≡ b ++ drop (length b) x) × (written_of p y ≡ b ++ drop (length b) y)
 
 -- For the bytes that a caller holds.
 
@@ -73,8 +74,8 @@ pub record SameIn {A : Type 0} (o p : Outcome A) (x y : List ℕ) : Type 0 where
 pub record Promised (t : List ℕ) : Type 0 where
   pub flat_bytes : List ℕ
   pub print : List ℕ
-  pub is_flat : flat_tree t ≡ ok flat_bytes
+  pub is_flat : flat_tree t ≡ Ok flat_bytes
   pub shown : Writes (display_answer t) print
-  pub again : (buffer : List ℕ) (n : ℕ) → answer_of (display_answer t) (length buffer) ≡ ok n → Writes (parse_answer (take n (written_of (display_answer t) buffer))) flat_bytes
+  pub again : (buffer : List ℕ) (n : ℕ) → answer_of (display_answer t) (length buffer) ≡ Ok n → Writes (parse_answer (take n (written_of (display_answer t) buffer))) flat_bytes
   pub alike : AnswersAlike flat_bytes t
   pub shown_alike : display_answer flat_bytes ≡ display_answer t

@@ -1,6 +1,6 @@
 -- What moving the first Format number from 900 to 901 changed, for every tree, read or not. Presence, its refusals, the package rows and the
 -- violations are the same; a format truth is the same, or was Unknown and is True. Assumes nothing.
-use Rattle.std.specs.Prelude.{◌≡◌, List, [], ◌∷◌, ◌++◌, Bool, false, cond, not, ◌&&◌, ◌||◌, ◌⊎◌, ℕ, suc, ◌+◌, eqb, leb, length}
+use Rattle.std.specs.Prelude.{◌≡◌, List, [], ◌∷◌, ◌++◌, Bool, false, cond, not, ◌&&◌, ◌||◌, ◌⊎◌, ℕ, suc, ◌+◌, eqb, leb, length, Result, Ok, Err, Option, Some, None}
 use Rattle.std.proofs.Math.Path.{refl, ap, ap₂, fun_ext}
 use Rattle.std.proofs.Common.{sym, ◌∙◌, inr, arith, eqb-true, leb-true, leb-false, le-leb}
 use Rattle.std.proofs.Math.Bool.{true}
@@ -8,14 +8,12 @@ use Rattle.std.proofs.lemmas.Bool.{false≢true, eqb-false, lt-leb}
 use Rattle.std.proofs.Math.Logic.{inl}
 use Rattle.std.proofs.Math.Option as option
 use Rattle.laws.specs.Tests.{and_both}
-use Rattle.refusal.specs.Result.{Result, ok, refused, refuse, unless, then, map_ok}
+use Rattle.refusal.specs.Result.{unless, then, map_ok}
 use Rattle.refusal.specs.declared.Refusal.{Refusal}
 use Rattle.refusal.specs.declared.Refusal.TheVariants.{TooLong, NotUtf8, WrongAnswers}
 use Rattle.text.specs.Quoted.{ascii}
 use Rattle.text.specs.Bytes.{begins, has, same}
 use Rattle.text.specs.Digits.{number_up_to}
-use Rattle.text.specs.declared.Found.{Found}
-use Rattle.text.specs.declared.Found.TheVariants.{Number, Nothing}
 use Rattle.text.proofs.Laws.{same_equal}
 use Rattle.utf8.specs.Utf8.{within, is_utf8}
 use Rattle.utf8.specs.Limits.{value_limit, admitted}
@@ -56,9 +54,9 @@ module _ (first : ℕ) where
       Other)))
 
   -- the kind of what stands as a number, or of no number
-  abbrev pub kind_of_found_from : Found → ConditionKind
-  kind_of_found_from (Number n) = kind_of_number_from n
-  kind_of_found_from Nothing = Other
+  abbrev pub kind_of_found_from : Option ℕ → ConditionKind
+  kind_of_found_from (Some n) = kind_of_number_from n
+  kind_of_found_from None = Other
 
   -- the kind that a text names
   unfoldable pub kind_from : List ℕ → ConditionKind
@@ -69,13 +67,13 @@ pub kind_now : (t : List ℕ) → kind_from 901 t ≡ kind_of t
 unfolding kind_from kind_of_number_from kind_of kind_of_number
 kind_now t = rw (by (number_up_to largest_number t))
   where
-    by : (f : Found) → kind_of_found_from 901 f ≡ kind_of_found f
-    by (Number n) = refl
-    by Nothing = refl
+    by : (f : Option ℕ) → kind_of_found_from 901 f ≡ kind_of_found f
+    by (Some n) = refl
+    by None = refl
 
 -- a text whose number is 900
 abbrev pub Is900 : List ℕ → Type 0
-Is900 t = number_up_to largest_number t ≡ Number 900
+Is900 t = number_up_to largest_number t ≡ Some 900
 
 -- however it is spelt, it is Other
 pub other_900 : (t : List ℕ) → Is900 t → kind_of t ≡ Other
@@ -103,16 +101,16 @@ pub kind_moves : (t : List ℕ) → Moves t (kind_from 900 t) (kind_of t)
 unfolding kind_from kind_of_number_from
 kind_moves t = rw (← kind_now t) (go (begins (ascii "UB") t) (has (ascii "P") t) (number_up_to largest_number t) refl)
   where
-    go : (u p : Bool) (f : Found) → number_up_to largest_number t ≡ f
+    go : (u p : Bool) (f : Option ℕ) → number_up_to largest_number t ≡ f
         → Moves t (cond u Zeitpunkt (cond p Paket (kind_of_found_from 900 f))) (cond u Zeitpunkt (cond p Paket (kind_of_found_from 901 f)))
     go true p f h = inl refl
     go false true f h = inl refl
-    go false false Nothing h = inl refl
-    go false false (Number n) h = by (number_moves n)
+    go false false None h = inl refl
+    go false false (Some n) h = by (number_moves n)
       where
         by : (kind_of_number_from 900 n ≡ kind_of_number_from 901 n) ⊎ (n ≡ 900) → Moves t (kind_of_number_from 900 n) (kind_of_number_from 901 n)
         by (inl same) = inl same
-        by (inr is) = inr (h ∙ ap Number is, ap (kind_of_number_from 900) is, ap (kind_of_number_from 901) is)
+        by (inr is) = inr (h ∙ ap Some is, ap (kind_of_number_from 900) is, ap (kind_of_number_from 901) is)
 
 -- a test of kinds that does not tell Format from Other sees no change
 pub unseen : (p : ConditionKind → Bool) → p Format ≡ p Other → (t : List ℕ) → p (kind_from 900 t) ≡ p (kind_of t)
@@ -123,9 +121,9 @@ unseen p h t = by (kind_moves t)
     by (inr m) = ap p m.1 ∙ h ∙ ap p (sym m.2)
 
 -- the number found is 900
-abbrev is900 : Found → Bool
-is900 (Number n) = eqb n 900
-is900 Nothing = false
+abbrev is900 : Option ℕ → Bool
+is900 (Some n) = eqb n 900
+is900 None = false
 
 -- the texts of these rows have another number
 abbrev others : Rows → Bool
@@ -157,7 +155,7 @@ module _ (first : ℕ) where
   mixes_from = mixes_with (λ t. is_hinweis (kind_from first t)) (λ t. is_gate (kind_from first t))
 
   -- presence
-  abbrev pub presence_from : (oracle : ℕ → Result Truth) → ℕ → Expr → Result Truth
+  abbrev pub presence_from : (oracle : ℕ → Result Truth Refusal) → ℕ → Expr → Result Truth Refusal
   presence_from = presence_with (λ t. is_hinweis (kind_from first t)) (λ t. is_gate (kind_from first t))
 
   -- the package rows of texts, numbered from n on
@@ -179,11 +177,11 @@ module _ (first : ℕ) where
 
 -- presence is the same where the same texts are Hinweise and the same gate
 presence-same : (first : ℕ) → ((t : List ℕ) → is_hinweis (kind_from first t) ≡ is_hinweis (kind_of t)) → ((t : List ℕ) → is_gate (kind_from first t) ≡ is_gate (kind_of t))
-    → (oracle : ℕ → Result Truth) (n : ℕ) (e : Expr) → presence_from first oracle n e ≡ presence oracle n e
+    → (oracle : ℕ → Result Truth Refusal) (n : ℕ) (e : Expr) → presence_from first oracle n e ≡ presence oracle n e
 presence-same first h g oracle n e = ap₂ (λ hint gate. presence_with hint gate oracle n e) (fun_ext h) (fun_ext g)
 
 -- from 901 on, it is the one that is used
-pub presence_now : (oracle : ℕ → Result Truth) (n : ℕ) (e : Expr) → presence_from 901 oracle n e ≡ presence oracle n e
+pub presence_now : (oracle : ℕ → Result Truth Refusal) (n : ℕ) (e : Expr) → presence_from 901 oracle n e ≡ presence oracle n e
 presence_now = presence-same 901 (λ t. ap is_hinweis (kind_now t)) (λ t. ap is_gate (kind_now t))
 
 -- so is what citations count as, and with it format truth
@@ -210,7 +208,7 @@ pub mixes_stay : (es : Exprs) → mixes_from 900 es ≡ mixes es
 mixes_stay es = ap₂ (λ h g. mixes_with h g es) (fun_ext (unseen is_hinweis refl)) (fun_ext (unseen is_gate refl))
 
 -- presence is as before, answer or refusal, whatever the oracle
-pub presence_stays : (oracle : ℕ → Result Truth) (n : ℕ) (e : Expr) → presence_from 900 oracle n e ≡ presence oracle n e
+pub presence_stays : (oracle : ℕ → Result Truth Refusal) (n : ℕ) (e : Expr) → presence_from 900 oracle n e ≡ presence oracle n e
 presence_stays = presence-same 900 (unseen is_hinweis refl) (unseen is_gate refl)
 
 -- the second is the first, or True where the first is Unknown
@@ -287,7 +285,7 @@ nine_hundred = (refl, refl)
 
 module _ (first : ℕ) where
   -- `eval`
-  unfoldable pub eval_from : (tree answers : List ℕ) → Result Truth
+  unfoldable pub eval_from : (tree answers : List ℕ) → Result Truth Refusal
   eval_from tree answers = then (tree_of tree) (λ e. unless (answers_fit e answers) WrongAnswers (presence_from first (oracle_of answers) 0 e))
 
   -- `pakete`
@@ -295,15 +293,15 @@ module _ (first : ℕ) where
   pakete_from tree = map_ok (λ e. rowed (rows_from first 0 (citations e))) (tree_of tree)
 
   -- `truth`
-  unfoldable pub truth_answer_from : (tree value : List ℕ) → Result Truth
-  truth_answer_from tree value = then (tree_of tree) (λ e. admitted value_limit value (ok (truth_from first value e)))
+  unfoldable pub truth_answer_from : (tree value : List ℕ) → Result Truth Refusal
+  truth_answer_from tree value = then (tree_of tree) (λ e. admitted value_limit value (Ok (truth_from first value e)))
 
   -- `violations`
   unfoldable pub violations_answer_from : (tree value : List ℕ) → Outcome ℕ
-  violations_answer_from tree value = then (tree_of tree) (λ e. admitted value_limit value (ok (numbered (violations_from first value e))))
+  violations_answer_from tree value = then (tree_of tree) (λ e. admitted value_limit value (Ok (numbered (violations_from first value e))))
 
   -- `eval_and_truth`
-  unfoldable pub eval_and_truth_from : (tree answers value : List ℕ) → Result (Truth × Truth)
+  unfoldable pub eval_and_truth_from : (tree answers value : List ℕ) → Result (Truth × Truth) Refusal
   eval_and_truth_from tree answers value =
       then (tree_of tree)
       (λ e. unless (answers_fit e answers) WrongAnswers (admitted value_limit value (map_ok (λ p. (p, truth_from first value e)) (presence_from first (oracle_of answers) 0 e))))
@@ -317,12 +315,12 @@ pub record AreNow (tree : List ℕ) : Type 0 where
   pub eval_and_truth : (answers value : List ℕ) → eval_and_truth_from 901 tree answers value ≡ eval_and_truth_answer tree answers value
 
 -- an answer before and now: the same, refusals among them, or Unknown and True
-abbrev pub SettledAnswer : Result Truth → Result Truth → Type 0
-SettledAnswer before now = (now ≡ before) ⊎ ((before ≡ ok Unknown) × (now ≡ ok True))
+abbrev pub SettledAnswer : Result Truth Refusal → Result Truth Refusal → Type 0
+SettledAnswer before now = (now ≡ before) ⊎ ((before ≡ Ok Unknown) × (now ≡ Ok True))
 
 -- two answers before and now: the same, refusals among them, or one presence with Unknown and with True
-abbrev pub SettledBoth : Result (Truth × Truth) → Result (Truth × Truth) → Type 0
-SettledBoth before now = (now ≡ before) ⊎ ((p : Truth) × (before ≡ ok (p, Unknown)) × (now ≡ ok (p, True)))
+abbrev pub SettledBoth : Result (Truth × Truth) Refusal → Result (Truth × Truth) Refusal → Type 0
+SettledBoth before now = (now ≡ before) ⊎ ((p : Truth) × (before ≡ Ok (p, Unknown)) × (now ≡ Ok (p, True)))
 
 -- what the public functions answer on a tree, with Format from 900 and now, whatever the answer bytes and the value
 pub record AsBefore (tree : List ℕ) : Type 0 where
@@ -338,7 +336,7 @@ pub record AsBefore (tree : List ℕ) : Type 0 where
   pub eval_and_truth : (answers value : List ℕ) → SettledBoth (eval_and_truth_from 900 tree answers value) (eval_and_truth_answer tree answers value)
 
 module _ (tree : List ℕ) where
-  eval_same : (first : ℕ) → ((oracle : ℕ → Result Truth) (n : ℕ) (e : Expr) → presence_from first oracle n e ≡ presence oracle n e)
+  eval_same : (first : ℕ) → ((oracle : ℕ → Result Truth Refusal) (n : ℕ) (e : Expr) → presence_from first oracle n e ≡ presence oracle n e)
       → (answers : List ℕ) → eval_from first tree answers ≡ eval_answer tree answers
   unfolding eval_from eval_answer
   eval_same first h answers = ap (λ f. then (tree_of tree) (λ e. unless (answers_fit e answers) WrongAnswers (f e))) (fun_ext (h (oracle_of answers) 0))
@@ -349,12 +347,12 @@ module _ (tree : List ℕ) where
 
   truth_now : (value : List ℕ) → truth_answer_from 901 tree value ≡ truth_answer tree value
   unfolding truth_answer_from truth_answer
-  truth_now value = ap (λ c. then (tree_of tree) (λ e. admitted value_limit value (ok (truth_with c 0 e)))) (counts_now value)
+  truth_now value = ap (λ c. then (tree_of tree) (λ e. admitted value_limit value (Ok (truth_with c 0 e)))) (counts_now value)
 
   list_same : (first : ℕ) → ((value : List ℕ) (e : Expr) → violations_from first value e ≡ violations value e)
       → (value : List ℕ) → violations_answer_from first tree value ≡ violations_answer tree value
   unfolding violations_answer_from violations_answer
-  list_same first h value = ap (λ f. then (tree_of tree) (λ e. admitted value_limit value (ok (numbered (f e))))) (fun_ext (h value))
+  list_same first h value = ap (λ f. then (tree_of tree) (λ e. admitted value_limit value (Ok (numbered (f e))))) (fun_ext (h value))
 
   both_now : (answers value : List ℕ) → eval_and_truth_from 901 tree answers value ≡ eval_and_truth_answer tree answers value
   unfolding eval_and_truth_from eval_and_truth_answer
@@ -373,54 +371,54 @@ are_now tree = record {
 }
 
 -- what holds of two answers, and of one and itself, holds of them after the same test
-unless_related : {A : Type 0} (R : Result A → Result A → Type 0) → ((r : Result A) → R r r) → (t : Bool) (why : Refusal) (before now : Result A) → R before now
+unless_related : {A : Type 0} (R : Result A Refusal → Result A Refusal → Type 0) → ((r : Result A Refusal) → R r r) → (t : Bool) (why : Refusal) (before now : Result A Refusal) → R before now
     → R (unless t why before) (unless t why now)
 unless_related R h true why before now k = k
-unless_related R h false why before now k = h (refuse why)
+unless_related R h false why before now k = h (Err why)
 
 -- the same after the tests of a value
-admitted_related : {A : Type 0} (R : Result A → Result A → Type 0) → ((r : Result A) → R r r) → (value : List ℕ) (before now : Result A) → R before now
+admitted_related : {A : Type 0} (R : Result A Refusal → Result A Refusal → Type 0) → ((r : Result A Refusal) → R r r) → (value : List ℕ) (before now : Result A Refusal) → R before now
     → R (admitted value_limit value before) (admitted value_limit value now)
 unfolding admitted
 admitted_related R h value before now k =
     unless_related R h (leb (length value) value_limit) TooLong _ _ (unless_related R h (is_utf8 value) NotUtf8 before now k)
 
-answer_settles : (value : List ℕ) (e : Expr) → SettledAnswer (ok (truth_from 900 value e)) (ok (truth value e))
+answer_settles : (value : List ℕ) (e : Expr) → SettledAnswer (Ok (truth_from 900 value e)) (Ok (truth value e))
 answer_settles value e = by (truth-settles value e)
   where
-    by : Settled (truth_from 900 value e) (truth value e) → SettledAnswer (ok (truth_from 900 value e)) (ok (truth value e))
-    by (inl is) = inl (ap ok is)
-    by (inr m) = inr (ap ok m.0, ap ok m.1)
+    by : Settled (truth_from 900 value e) (truth value e) → SettledAnswer (Ok (truth_from 900 value e)) (Ok (truth value e))
+    by (inl is) = inl (ap Ok is)
+    by (inr m) = inr (ap Ok m.0, ap Ok m.1)
 
-both-settles : (r : Result Truth) (value : List ℕ) (e : Expr) → SettledBoth (map_ok (λ p. (p, truth_from 900 value e)) r) (map_ok (λ p. (p, truth value e)) r)
+both-settles : (r : Result Truth Refusal) (value : List ℕ) (e : Expr) → SettledBoth (map_ok (λ p. (p, truth_from 900 value e)) r) (map_ok (λ p. (p, truth value e)) r)
 unfolding map_ok
-both-settles (refused k) value e = inl refl
-both-settles (ok p) value e = by (truth-settles value e)
+both-settles (Err k) value e = inl refl
+both-settles (Ok p) value e = by (truth-settles value e)
   where
-    by : Settled (truth_from 900 value e) (truth value e) → SettledBoth (ok (p, truth_from 900 value e)) (ok (p, truth value e))
-    by (inl is) = inl (ap (λ t. ok (p, t)) is)
-    by (inr m) = inr (p, ap (λ t. ok (p, t)) m.0, ap (λ t. ok (p, t)) m.1)
+    by : Settled (truth_from 900 value e) (truth value e) → SettledBoth (Ok (p, truth_from 900 value e)) (Ok (p, truth value e))
+    by (inl is) = inl (ap (λ t. Ok (p, t)) is)
+    by (inr m) = inr (p, ap (λ t. Ok (p, t)) m.0, ap (λ t. Ok (p, t)) m.1)
 
 module _ (tree : List ℕ) where
   truth_answer_settles : (value : List ℕ) → SettledAnswer (truth_answer_from 900 tree value) (truth_answer tree value)
   unfolding truth_answer_from truth_answer then
   truth_answer_settles value = by (tree_of tree)
     where
-      by : (r : Result Expr) → SettledAnswer (then r (λ e. admitted value_limit value (ok (truth_from 900 value e)))) (then r (λ e. admitted value_limit value (ok (truth value e))))
-      by (ok e) = admitted_related SettledAnswer (λ r. inl refl) value _ _ (answer_settles value e)
-      by (refused k) = inl refl
+      by : (r : Result Expr Refusal) → SettledAnswer (then r (λ e. admitted value_limit value (Ok (truth_from 900 value e)))) (then r (λ e. admitted value_limit value (Ok (truth value e))))
+      by (Ok e) = admitted_related SettledAnswer (λ r. inl refl) value _ _ (answer_settles value e)
+      by (Err k) = inl refl
 
   both_answer_settles : (answers value : List ℕ) → SettledBoth (eval_and_truth_from 900 tree answers value) (eval_and_truth_answer tree answers value)
   unfolding eval_and_truth_from eval_and_truth_answer then
   both_answer_settles answers value = rw (fun_ext (presence_stays (oracle_of answers) 0)) (by (tree_of tree))
     where
-      by : (r : Result Expr) → SettledBoth
+      by : (r : Result Expr Refusal) → SettledBoth
           (then r (λ e. unless (answers_fit e answers) WrongAnswers (admitted value_limit value (map_ok (λ p. (p, truth_from 900 value e)) (presence (oracle_of answers) 0 e)))))
           (then r (λ e. unless (answers_fit e answers) WrongAnswers (admitted value_limit value (map_ok (λ p. (p, truth value e)) (presence (oracle_of answers) 0 e)))))
-      by (ok e) =
+      by (Ok e) =
           unless_related SettledBoth (λ r. inl refl) (answers_fit e answers) WrongAnswers _ _
           (admitted_related SettledBoth (λ r. inl refl) value _ _ (both-settles (presence (oracle_of answers) 0 e) value e))
-      by (refused k) = inl refl
+      by (Err k) = inl refl
 
 -- for every byte string: presence and violations are as before, a format truth is as before, or was Unknown and is True
 pub as_before : (tree : List ℕ) → AsBefore tree

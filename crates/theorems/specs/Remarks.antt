@@ -1,7 +1,8 @@
 -- Sizes, what Unknown rests on, and what cannot arise, of every tree, read or not. Assumes nothing.
-use Rattle.std.specs.Prelude.{◌≡◌, refl, List, Bool, true, false, ◌⊎◌, ℕ, ◌≤◌, leb, length, get_or, set}
+use Rattle.std.specs.Prelude.{◌≡◌, refl, List, Bool, true, false, ◌⊎◌, ℕ, ◌≤◌, leb, length, get_or, set, Result, Ok, Err}
 use Rattle.std.proofs.Common.{sym, ap, ◌∙◌, inl, inr, arith}
-use Rattle.refusal.specs.Result.{Result, ok, refused, unless, then, refused≢ok, unless_ok}
+use Rattle.refusal.specs.declared.Refusal.{Refusal}
+use Rattle.refusal.specs.Result.{unless, then, err≢ok, unless_ok}
 use Rattle.refusal.specs.Refusals.{number_of}
 use Rattle.refusal.specs.declared.Refusal.TheVariants.{TooLong, NotUtf8, NotATree, WrongAnswers}
 use Rattle.utf8.specs.Utf8.{is_utf8, decode}
@@ -33,11 +34,11 @@ pub record Small (b : List ℕ) (e : Expr) : Type 0 where
   pub nodes : span e ≤ node_limit
   pub bytes : length b ≤ tree_limit
   pub print_bytes : length (printed e) ≤ print_limit
-  pub print_tokens : lex (decode (printed e)) ≡ ok (print in_tokens e)
+  pub print_tokens : lex (decode (printed e)) ≡ Ok (print in_tokens e)
   pub print_deep : shallow 254 0 (print in_tokens e) ≡ true
 
 -- what is a tree keeps these sizes
-pub tree-small : (b : List ℕ) → IsBytes b → (e : Expr) → tree_of b ≡ ok e → Small b e
+pub tree-small : (b : List ℕ) → IsBytes b → (e : Expr) → tree_of b ≡ Ok e → Small b e
 tree-small b i e h =
     let t = grammar.tree_is_bytes b i e h in
     let s = grammar.print_shallow e t.1 in
@@ -55,26 +56,26 @@ pub small_numbers : (node_limit ≡ 511) × (tree_limit ≡ 6150) × (print_limi
 small_numbers = (refl, refl, refl)
 
 -- the answer to a dropped citation does not matter, as long as it is one of the five
-pub dropped_free : (tree answers : List ℕ) (e : Expr) (k x : ℕ) → tree_of tree ≡ ok e → answers_fit e answers ≡ true
+pub dropped_free : (tree answers : List ℕ) (e : Expr) (k x : ℕ) → tree_of tree ≡ Ok e → answers_fit e answers ≡ true
     → evaluates k 0 e ≡ false → x ≤ failed → eval_answer tree (set answers k x) ≡ eval_answer tree answers
 dropped_free = evaluated.dropped_free
 
 -- a tree that was tested, and what was answered on it
-then_ok : {A B : Type 0} (r : Result A) (f : A → Result B) (b : B) → then r f ≡ ok b → (a : A) × (r ≡ ok a) × (f a ≡ ok b)
+then_ok : {A B : Type 0} (r : Result A Refusal) (f : A → Result B Refusal) (b : B) → then r f ≡ Ok b → (a : A) × (r ≡ Ok a) × (f a ≡ Ok b)
 unfolding then
-then_ok (ok a) f b h = (a, refl, h)
-then_ok (refused k) f b h = absurd (refused≢ok h)
+then_ok (Ok a) f b h = (a, refl, h)
+then_ok (Err k) f b h = absurd (err≢ok h)
 
 -- an evaluated citation whose answer byte is that of Unknown
 pub record UnknownAnswer (tree answers : List ℕ) : Type 0 where
   pub expr : Expr
-  pub is_of : tree_of tree ≡ ok expr
+  pub is_of : tree_of tree ≡ Ok expr
   pub number : ℕ
   pub is_evaluated : evaluates number 0 expr ≡ true
   pub answer : get_or answers number failed ≡ truth_number Unknown
 
 -- an Unknown presence comes from an evaluated citation that was answered Unknown
-pub unknown_cited : (tree answers : List ℕ) → eval_answer tree answers ≡ ok Unknown → UnknownAnswer tree answers
+pub unknown_cited : (tree answers : List ℕ) → eval_answer tree answers ≡ Ok Unknown → UnknownAnswer tree answers
 unfolding eval_answer
 unknown_cited tree answers h =
     let t = then_ok (tree_of tree) (λ e. unless (answers_fit e answers) WrongAnswers (presence_by answers e)) Unknown h in
@@ -83,12 +84,12 @@ unknown_cited tree answers h =
     record { expr = t.0; is_of = t.1; number = u.number; is_evaluated = u.is_evaluated; answer = answered_unknown (get_or answers u.number failed) u.answer }
 
 -- format truth is Unknown only if a cited Format or Zeitpunkt condition is Unregistered
-pub truth_unknown_cited : (tree value : List ℕ) → truth_answer tree value ≡ ok Unknown → (e : Expr) × (tree_of tree ≡ ok e) × UnregisteredAmong value (citations e)
+pub truth_unknown_cited : (tree value : List ℕ) → truth_answer tree value ≡ Ok Unknown → (e : Expr) × (tree_of tree ≡ Ok e) × UnregisteredAmong value (citations e)
 unfolding truth_answer
 truth_unknown_cited tree value h =
-    let t = then_ok (tree_of tree) (λ e. admitted value_limit value (ok (truth value e))) Unknown h in
-    let p = admitted_ok value_limit value (ok (truth value t.0)) Unknown t.2 in
-    let same : ok (truth value t.0) ≡ ok Unknown = p.1 in
+    let t = then_ok (tree_of tree) (λ e. admitted value_limit value (Ok (truth value e))) Unknown h in
+    let p = admitted_ok value_limit value (Ok (truth value t.0)) Unknown t.2 in
+    let same : Ok (truth value t.0) ≡ Ok Unknown = p.1 in
     let one : truth value t.0 ≡ Unknown = cc in
     (t.0, t.1, unknown.truth_unknown_cited value 0 t.0 (ap is_unknown one))
 
@@ -97,27 +98,27 @@ abbrev pub TruthRefusal : ℕ → Type 0
 TruthRefusal k = (k ≡ number_of NotATree) ⊎ ((k ≡ number_of TooLong) ⊎ (k ≡ number_of NotUtf8))
 
 -- 7 and 8 never arise in format truth: what is refused is refused with 15, 10 or 11
-pub truth-refusals : (tree value : List ℕ) (k : ℕ) → truth_answer tree value ≡ refused k → TruthRefusal k
+pub truth-refusals : (tree value : List ℕ) (why : Refusal) → truth_answer tree value ≡ Err why → TruthRefusal (number_of why)
 unfolding truth_answer tree_of then admitted
-truth-refusals tree value k h = by (is_tree tree) (leb (length value) value_limit) (is_utf8 value) h
+truth-refusals tree value why h = by (is_tree tree) (leb (length value) value_limit) (is_utf8 value) h
   where
-    number : {m n : ℕ} → ◌≡◌ {A = Result Truth} (refused m) (refused n) → n ≡ m
-    number h = cc
+    number : {m n : Refusal} → ◌≡◌ {A = Result Truth Refusal} (Err m) (Err n) → number_of n ≡ number_of m
+    number {m} {n} h = let e : n ≡ m = cc in ap number_of e
 
     by : (t l u : Bool)
-        → then (unless t NotATree (ok (tree_at tree 0))) (λ e. unless l TooLong (unless u NotUtf8 (ok (truth value e)))) ≡ refused k → TruthRefusal k
+        → then (unless t NotATree (Ok (tree_at tree 0))) (λ e. unless l TooLong (unless u NotUtf8 (Ok (truth value e)))) ≡ Err why → TruthRefusal (number_of why)
     by false l u h = inl (number h)
     by true false u h = inr (inl (number h))
     by true true false h = inr (inr (number h))
-    by true true true h = absurd (refused≢ok (sym h))
+    by true true true h = absurd (err≢ok (sym h))
 
 -- format truth is False, Unknown or True
-pub truth-filled : (tree value : List ℕ) → IsBytes tree → (v : Truth) → truth_answer tree value ≡ ok v → is_neutral v ≡ false
+pub truth-filled : (tree value : List ℕ) → IsBytes tree → (v : Truth) → truth_answer tree value ≡ Ok v → is_neutral v ≡ false
 unfolding truth_answer
 truth-filled tree value i v h =
-    let t = then_ok (tree_of tree) (λ e. admitted value_limit value (ok (truth value e))) v h in
+    let t = then_ok (tree_of tree) (λ e. admitted value_limit value (Ok (truth value e))) v h in
     let f = (grammar.tree_is_bytes tree i t.0 t.1).1 in
-    let p = admitted_ok value_limit value (ok (truth value t.0)) v t.2 in
-    let same : ok (truth value t.0) ≡ ok v = p.1 in
+    let p = admitted_ok value_limit value (Ok (truth value t.0)) v t.2 in
+    let same : Ok (truth value t.0) ≡ Ok v = p.1 in
     let one : truth value t.0 ≡ v = cc in
     sym (ap is_neutral one) ∙ unknown.truth-filled value 0 t.0 f.wide

@@ -1,13 +1,13 @@
 -- What `cited` answers, and that the text stands there. Assumes nothing.
+use Rattle.std.specs.Prelude.{Ok, Err, Some, None}
 use mathlib.Core.Path.{◌≡◌, sym, ap}
 use mathlib.Core.List.{List, []}
 use mathlib.Core.Bool.{true, false}
-use mathlib.Core.Option.{none, some}
 use Prim.Native.Nat.{ℕ, ◌≤◌, ◌<◌}
 use native.Mathlib.Omega.{arith}
 use lib.ListN.{length, get_or, take, drop}
 use borrow.Author.Tests.{lt-ltb, le-ltb}
-use Rattle.refusal.specs.Result.{ok, refuse, map_ok, unless_ok}
+use Rattle.refusal.specs.Result.{map_ok, unless_ok}
 use Rattle.refusal.specs.declared.Refusal.TheVariants.{NotATree}
 use Rattle.grammar.specs.Expr.{Expr, citations, count}
 use Rattle.grammar.specs.Bytes.{cites, is_tree, tree_at, tree_of}
@@ -18,7 +18,7 @@ use Rattle.tree.proofs.Cites.{text_from_lem, text_size_lem, text_is}
 use Rattle.tree.proofs.Walks.{root, no-tree}
 
 -- not a tree
-pub cited-refused : (b : List ℕ) (n : ℕ) → is_tree b ≡ false → refuse NotATree ≡ cited_answer b n
+pub cited-refused : (b : List ℕ) (n : ℕ) → is_tree b ≡ false → Err NotATree ≡ cited_answer b n
 unfolding cited_answer map_ok
 cited-refused b n h = rw (no-tree b h)
 
@@ -30,22 +30,22 @@ unfolding text_at
 text-there b h n = ap (λ x. get_or x n []) (root b h).cited
 
 -- no such citation
-pub cited-absent : (b : List ℕ) (n : ℕ) → is_tree b ≡ true → cites b ≤ n → ok none ≡ cited_answer b n
+pub cited-absent : (b : List ℕ) (n : ℕ) → is_tree b ≡ true → cites b ≤ n → Ok None ≡ cited_answer b n
 unfolding cited_answer cited_place map_ok
 cited-absent b n h l = let r = root b h in rw (r.is, le-ltb n (count (tree_at b 0)) (omega (arith, r.counts)))
 
 -- the place of the text
-pub cited_at : (b : List ℕ) (n start size : ℕ) → is_tree b ≡ true → n < cites b → start ≡ text_from b n → size ≡ text_size b n → ok (some (start, size)) ≡ cited_answer b n
+pub cited_at : (b : List ℕ) (n start size : ℕ) → is_tree b ≡ true → n < cites b → start ≡ text_from b n → size ≡ text_size b n → Ok (Some (start, size)) ≡ cited_answer b n
 unfolding cited_answer cited_place map_ok
 cited_at b n start size h l e f =
     let r = root b h in
     rw (r.is, lt-ltb n (count (tree_at b 0)) (omega (arith, r.counts)), place_is b h n l, text-there b h n, text_size_lem b h n l, e, f)
 
 -- the text stands at its place
-pub cited-text : (b : List ℕ) (e : Expr) (n : ℕ) → tree_of b ≡ ok e → n < count e → take (length (get_or (citations e) n [])) (drop (place_of e n) b) ≡ get_or (citations e) n []
+pub cited-text : (b : List ℕ) (e : Expr) (n : ℕ) → tree_of b ≡ Ok e → n < count e → take (length (get_or (citations e) n [])) (drop (place_of e n) b) ≡ get_or (citations e) n []
 unfolding tree_of
 cited-text b e n h l =
-    let t = unless_ok (is_tree b) NotATree (ok (tree_at b 0)) e h in
+    let t = unless_ok (is_tree b) NotATree (Ok (tree_at b 0)) e h in
     let same : tree_at b 0 ≡ e = ok_same (tree_at b 0) e t.1 in
     let r = root b t.0 in
     let inside : n < cites b = omega (arith, r.counts, ap count same) in

@@ -1,14 +1,14 @@
 -- Plain bytes: a part of them is plain, and a text of them is citable unless it is empty. Assumes nothing.
 use mathlib.Core.Path.{◌≡◌, refl, sym, ap, ◌∙◌}
 use mathlib.Core.List.{List, [], ◌∷◌}
-use mathlib.Core.Bool.{Bool, true, false, not, ◌&&◌, false≢true, and-false}
+use mathlib.Core.Bool.{Bool, true, false, not, ◌&&◌, false≢true}
 use Prim.Native.Nat.{ℕ, zero, suc, ◌+◌, ◌-◌, ◌≤◌, ◌<◌}
 use native.Mathlib.Omega.{arith}
 use native.Mathlib.Numerals.{add-one}
-use lib.Dec.{eqb, leb, ltb}
-use lib.ListN.{length, get_or, take, drop, drop_of_length-le}
-use lib.Seq.{drop-cons, drop-drop}
-use borrow.Author.Tests.{le-leb, lt-leb, eq-eqb, leb-true, lt-ltb}
+use lib.Dec.{eqb, leb}
+use lib.ListN.{length, get_or, take, drop, length-drop, drop_of_length-le}
+use lib.Seq.{drop-cons, drop-drop, take_all}
+use borrow.Author.Tests.{eq-eqb, ne_eqb, leb-true}
 use Rattle.laws.specs.Tests.{and_both}
 use Rattle.utf8.specs.White.{is_white}
 use Rattle.utf8.proofs.Ascii.{ascii_step}
@@ -17,17 +17,14 @@ use Rattle.grammar.specs.Citable.{citable}
 use Rattle.tree.specs.Plain.{is_plain, all_plain, PlainIf}
 use Rattle.tree.proofs.Texts.{citable_from, citable_begin, citable_end, citable_char}
 
-pub plain_low : (b : ℕ) → b < 0x21 → false ≡ is_plain b
-unfolding is_plain
-plain_low b h = rw (lt-leb 0x21 b h)
+and_assoc : (x y z : Bool) → (x && y) && z ≡ x && (y && z)
+and_assoc true y z = refl
+and_assoc false y z = refl
 
-pub plain_high : (b : ℕ) → 0x7E < b → false ≡ is_plain b
+-- a byte is plain if it is visible ASCII and no `]`
+pub plain_tested : (b : ℕ) (x : Bool) → leb 0x21 b && leb b 0x7E ≡ x → x && not (eqb b 0x5D) ≡ is_plain b
 unfolding is_plain
-plain_high b h = rw (lt-leb b 0x7E h, and-false (leb 0x21 b))
-
-pub plain_in : (b : ℕ) → 0x21 ≤ b → b ≤ 0x7E → not (eqb b 0x5D) ≡ is_plain b
-unfolding is_plain
-plain_in b h k = rw (le-leb 0x21 b h, le-leb b 0x7E k)
+plain_tested b x h = rw (← h) (and_assoc (leb 0x21 b) (leb b 0x7E) (not (eqb b 0x5D)))
 
 -- what a plain byte is
 plain_byte : (b : ℕ) → is_plain b ≡ true → (0x21 ≤ b) × (b ≤ 0x7E) × (b ≡ 0x5D → ⊥)
@@ -51,10 +48,13 @@ pub plain_end : (x : Bool) (s : List ℕ) (i : ℕ) → length s ≤ i → x ≡
 plain_end true s i h = rw (drop_of_length-le s h)
 plain_end false s i h = refl
 
--- what the test of all bytes says
-pub plain_said : (x : Bool) (s : List ℕ) → x ≡ all_plain s → PlainIf x s
+plain_said : (x : Bool) (s : List ℕ) → x ≡ all_plain s → PlainIf x s
 plain_said true s h = sym h
 plain_said false s h = tt
+
+-- what the test of all bytes from one on says
+pub plain_rest : (x : Bool) (b : List ℕ) (base : ℕ) → x ≡ all_plain (take (length b - base) (drop base b)) → PlainIf x (drop base b)
+plain_rest x b base h = plain_said x (drop base b) (h ∙ ap all_plain (take_all (length b - base) (drop base b) (omega (arith, length-drop base b))))
 
 plain_drop : (k : ℕ) (s : List ℕ) → all_plain s ≡ true → all_plain (drop k s) ≡ true
 plain_drop zero s h = h
@@ -88,12 +88,12 @@ plain_after (b ∷ s) h =
     sym (plain_char false b s q.0) ∙ plain_after s q.1
 
 -- plain bytes are citable unless there are none
-pub plain_citable : (x : Bool) (s : List ℕ) → x ≡ true → PlainIf x s → ltb 0 (length s) ≡ citable s
+pub plain_citable : (x : Bool) (s : List ℕ) → x ≡ true → PlainIf x s → not (eqb (length s) 0) ≡ citable s
 plain_citable false s e h = absurd (false≢true e)
 plain_citable true [] e h = citable_end true [] refl ∙ citable_begin []
 plain_citable true (b ∷ s) e h =
     let q = and_both (is_plain b) (all_plain s) h in
-    lt-ltb 0 (suc (length s)) (omega arith)
+    ap not (ne_eqb (suc (length s)) 0 (λ e. absurd (omega (arith, e))))
     ∙ sym (plain_after s q.1)
     ∙ ap (λ (x : Bool). citable_from x s) (sym (plain_white b q.0))
     ∙ plain_char true b s q.0

@@ -39,13 +39,14 @@ module _ (b : List ℕ) where
       drop-from y rest (p + 6) (omega arith) ∙ ap (λ (n : ℕ). rows_from b n (p + 6 + 6 * y)) a ∙ ap (λ (n : ℕ). rows_from b (suc rest - suc y) n) c
 
   module _ (size rest p : ℕ) where
-    pub tiles-next : (kids y : ℕ) → 0 < kids → y ≡ field b (p + 4) → 0 < y → y ≤ size → size ≤ rest
-        → tiles (kids - 1) (size - y) (rows_from b (rest - y) (p + 6 * y)) ≡ tiles kids size (rows_from b rest p)
+    pub tiles-next : (kids y more left : ℕ) → more + 1 ≡ kids → left + y ≡ rest → y ≡ field b (p + 4) → 0 < y → y ≤ size → size ≤ rest
+        → tiles more (size - y) (rows_from b left (p + 6 * y)) ≡ tiles kids size (rows_from b rest p)
     unfolding tiles
-    tiles-next zero y h e z l r = absurd (omega arith)
-    tiles-next (suc k) y h e z l r =
-        let less : suc k - 1 ≡ k = omega arith in
-        rw (size_here rest p (omega arith), ← e, lt-ltb 0 y z, le-leb y size l, drop-from y rest p (omega arith), less)
+    tiles-next zero y more left h f e z l r = absurd (omega arith)
+    tiles-next (suc k) y more left h f e z l r =
+        let less : more ≡ k = omega arith in
+        let rows : rest - y ≡ left = omega arith in
+        rw (size_here rest p (omega arith), ← e, lt-ltb 0 y z, le-leb y size l, drop-from y rest p (omega arith), less, rows)
 
     pub tiles_none : (kids : ℕ) → 0 < kids → 0 < rest → field b (p + 4) ≡ 0 → false ≡ tiles kids size (rows_from b rest p)
     unfolding tiles
@@ -57,11 +58,14 @@ module _ (b : List ℕ) where
     tiles-over zero h r e = absurd (omega arith)
     tiles-over (suc k) h r e = rw (size_here rest p r, lt-ltb 0 (field b (p + 4)) (omega arith), lt-leb (field b (p + 4)) size e)
 
-    pub ok_next : (n c left : ℕ) → 0 < left → row_ok n (row_at b p) (rows_from b (left - 1) (p + 6)) ≡ true
-        → rows_ok (counted n (row_at b p)) c (rows_from b (left - 1) (p + 6)) ≡ rows_ok n c (rows_from b left p)
+    pub ok_next : (n c left more q : ℕ) → more + 1 ≡ left → q ≡ p + 6 → row_ok n (row_at b p) (rows_from b (left - 1) (p + 6)) ≡ true
+        → rows_ok (counted n (row_at b p)) c (rows_from b more q) ≡ rows_ok n c (rows_from b left p)
     unfolding rows_ok rows_from
-    ok_next n c zero h k = absurd (omega arith)
-    ok_next n c (suc left) h k = let less : suc left - 1 ≡ left = omega arith in rw (less) (rw (rw less at k))
+    ok_next n c zero more q h e k = absurd (omega arith)
+    ok_next n c (suc left) more q h e k =
+        let less : suc left - 1 ≡ left = omega arith in
+        let same : more ≡ left = omega arith in
+        rw (e, same) (rw (rw less at k))
 
     pub ok_fail : (n c left : ℕ) → 0 < left → row_ok n (row_at b p) (rows_from b (left - 1) (p + 6)) ≡ false → false ≡ rows_ok n c (rows_from b left p)
     unfolding rows_ok rows_from
@@ -92,13 +96,13 @@ module _ (b : List ℕ) where
         and_false (eqb (texts_at b + field b at) p) _ (sym (and_false (leb (p + field b (at + 2)) (length b)) _
         (sym (false_and (citable (take (field b (at + 2)) (drop p b))) _ (rw e at k)))))
 
-    pub cite_next : (left n q : ℕ) → 0 < left → texts_at b + field b at ≡ p → n ≡ field b (at + 2) → q ≡ p + n → q ≤ length b → citable (take n (drop p b)) ≡ true
-        → cites_ok b (left - 1) (at + 4) q ≡ cites_ok b left at p
+    pub cite_next : (left n q more next : ℕ) → more + 1 ≡ left → next ≡ at + 4 → texts_at b + field b at ≡ p → n ≡ field b (at + 2) → q ≡ p + n → q ≤ length b → citable (take n (drop p b)) ≡ true
+        → cites_ok b more next q ≡ cites_ok b left at p
     unfolding cites_ok
-    cite_next zero n q h o e g l k = absurd (omega arith)
-    cite_next (suc left) n q h o e g l k =
-        let less : suc left - 1 ≡ left = omega arith in
-        rw (less, g, eq-eqb (texts_at b + field b at) p o, ← e, le-leb (p + n) (length b) (omega arith), k)
+    cite_next zero n q more next h f o e g l k = absurd (omega arith)
+    cite_next (suc left) n q more next h f o e g l k =
+        let less : more ≡ left = omega arith in
+        rw (less, f, g, eq-eqb (texts_at b + field b at) p o, ← e, le-leb (p + n) (length b) (omega arith), k)
 
     pub cite_end_lem : (left : ℕ) → left ≤ 0 → eqb p (length b) ≡ cites_ok b left at p
     unfolding cites_ok

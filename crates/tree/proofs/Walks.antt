@@ -1,4 +1,5 @@
 -- Walking a tree by its rows: the root, a citation's row, and the loop over a node's children. Assumes nothing.
+use Rattle.std.specs.Prelude.{Ok, Err}
 use Rattle.grammar.proofs.Rows.{firsts-all, built}
 use mathlib.Core.Path.{◌≡◌, refl, sym, ap, ◌∙◌, subst}
 use mathlib.Core.List.{List, [], ◌∷◌, ◌++◌}
@@ -10,7 +11,6 @@ use lib.Dec.{ltb}
 use lib.ListN.{length, drop, length-append}
 use lib.Seq.{get_or-drop}
 use borrow.Author.Tests.{ltb-true, ltb-false}
-use Rattle.refusal.specs.Result.{ok, refuse}
 use Rattle.refusal.specs.declared.Refusal.TheVariants.{NotATree}
 use Rattle.grammar.specs.Expr.{And, Or, Xor, Expr, Exprs, cite, Then, join, none, more, ◌◂◌, ◌⧺◌, citations, citations_of, count, citations_append}
 use Rattle.grammar.proofs.Expr.{append_none, appends_assoc}
@@ -25,13 +25,13 @@ use Rattle.tree.proofs.Spots.{spot, found, tree-first, row_number, texts-count}
 use Rattle.tree.proofs.Cites.{texts-stand}
 
 -- what is not a tree is turned back with 15
-pub no-tree : (b : List ℕ) → is_tree b ≡ false → tree_of b ≡ refuse NotATree
+pub no-tree : (b : List ℕ) → is_tree b ≡ false → tree_of b ≡ Err NotATree
 unfolding tree_of
 no-tree b h = rw h
 
 -- the whole tree
 pub record Root (b : List ℕ) : Type 0 where
-  pub is : tree_of b ≡ ok (tree_at b 0)
+  pub is : tree_of b ≡ Ok (tree_at b 0)
   pub some : 0 < nodes b
   pub size : span (tree_at b 0) ≡ nodes b
   pub cited : citations (tree_at b 0) ≡ texts_in b
@@ -39,7 +39,7 @@ pub record Root (b : List ℕ) : Type 0 where
   pub fits : Fits (tree_at b 0)
   pub first : first_at b 0 ≡ 0
 
-tree_is : (b : List ℕ) → is_tree b ≡ true → tree_of b ≡ ok (tree_at b 0)
+tree_is : (b : List ℕ) → is_tree b ≡ true → tree_of b ≡ Ok (tree_at b 0)
 unfolding tree_of
 tree_is b h = rw h
 

@@ -2,13 +2,12 @@
 
 #![tactic(auto)]
 
-ghost use Rattle.std.specs.Prelude.{◌≡◌, true, ◌&&◌, ◌+◌, ◌*◌, ◌-◌, ◌≤◌, ◌<◌, length, drop};
-ghost use Rattle.utf8.specs.White.{is_white};
+ghost use Rattle.std.specs.Prelude.{◌≡◌, true, ◌+◌, ◌*◌, ◌-◌, ◌≤◌, ◌<◌, length, drop};
 ghost use Rattle.grammar.specs.Citable.{citable};
 ghost use Rattle.grammar.specs.Rows.{span};
 ghost use Rattle.grammar.specs.Bytes.{head_size, row_size, cite_size, nodes, cites, texts_at, row_at, rows_from, head_ok, tiles, row_ok, counted, rows_ok, cites_ok, is_tree, tree_at};
 ghost use Rattle.tree.specs.Walk.{node_kind, number_at, text_at, text_from, text_size};
-ghost use Rattle.tree.specs.Cited.{cited_answer, cited_said};
+ghost use Rattle.tree.specs.Cited.{cited_answer};
 ghost use Rattle.tree.specs.Plain.{is_plain, all_plain, PlainIf};
 
 use fields::get16;
@@ -31,14 +30,6 @@ pub const CITED_LIMIT: usize = 2048;
 pub const NODE_LIMIT: usize = 511;
 
 pub const TREE_LIMIT: usize = 6150;
-
-// Where a citation's text stands in the tree.
-#[derive(Clone, Copy)]
-pub enum CitedText {
-    At { start: usize, size: usize },
-    Absent,
-    Refused(Refusal),
-}
 
 // The header is that of its counts and of the length.
 fn head_ok(tree: &[u8]) -> bool
@@ -75,11 +66,9 @@ fn tiles_at(tree: &[u8], m: usize, z: usize, left: usize, at: usize) -> bool
     requires { (z ≤ left) × (at + row_size * left ≤ length tree.now) }
     ensures { result ≡ tiles m z (rows_from tree.now left at) }
 {
-    let mut kids = m;
     let mut size = z;
-    let mut rest = left;
     let mut p = at;
-    while 0 < kids {
+    for _ in 0..m {
         if size == 0 {
             return false;
         }
@@ -90,9 +79,7 @@ fn tiles_at(tree: &[u8], m: usize, z: usize, left: usize, at: usize) -> bool
         if size < y {
             return false;
         }
-        kids -= 1;
         size -= y;
-        rest -= y;
         p += ROW_SIZE * y;
     }
     size == 0
@@ -107,10 +94,7 @@ fn row_ok(tree: &[u8], left: usize, at: usize, n: usize) -> bool
     let m = get16(tree, at + 2);
     let z = get16(tree, at + 4);
     if k == 0 {
-        if m != n {
-            return false;
-        }
-        return z == 1;
+        return m == n && z == 1;
     }
     if 4 < k {
         return false;
@@ -132,10 +116,7 @@ fn count_row(tree: &[u8], at: usize, n: usize) -> usize
     requires { (at + 5 < length tree.now) × (n < 65536) }
     ensures { (result ≡ counted n (row_at tree.now at)) × (result ≤ n + 1) }
 {
-    if get16(tree, at) == 0 {
-        return n + 1;
-    }
-    n
+    n + usize::from(get16(tree, at) == 0)
 }
 
 // Each row fits, and the citations are numbered in order.
@@ -143,27 +124,15 @@ fn rows_ok(tree: &[u8], n: usize, c: usize) -> bool
     requires { (head_size + row_size * n ≤ length tree.now) × (n < 65536) }
     ensures { result ≡ rows_ok 0 c (rows_from tree.now n head_size) }
 {
-    let mut left = n;
-    let mut at = HEAD_SIZE;
     let mut before = 0;
-    while 0 < left {
-        if !row_ok(tree, left, at, before) {
+    for i in 0..n {
+        let at = HEAD_SIZE + ROW_SIZE * i;
+        if !row_ok(tree, n - i, at, before) {
             return false;
         }
         before = count_row(tree, at, before);
-        left -= 1;
-        at += ROW_SIZE;
     }
     before == c
-}
-
-fn still_blank(blank: bool, code: u32) -> bool
-    ensures { result ≡ blank && is_white code }
-{
-    if blank {
-        return is_white(code);
-    }
-    false
 }
 
 // A citation's text: UTF-8, not blank, without `]`.
@@ -172,23 +141,16 @@ fn is_citable(text: &[u8]) -> bool
 {
     let mut at = 0;
     let mut blank = true;
+    // Each turn goes on by the width of the character that it read, so no range says the places.
     while at < text.len() {
-        let here = step_at(text, at);
-        match here {
-            Step::Char { code, width } => {
-                if code == 0x5D {
-                    return false;
-                }
-                blank = still_blank(blank, code);
-                at += width;
-            }
-            Step::Bad => {
-                return false;
-            }
-            Step::End => {
-                return false;
-            }
+        let Step::Char { code, width } = step_at(text, at) else {
+            return false;
+        };
+        if code == 0x5D {
+            return false;
         }
+        blank = blank && is_white(code);
+        at += width;
     }
     !blank
 }
@@ -197,33 +159,16 @@ fn is_citable(text: &[u8]) -> bool
 fn is_plain(b: u8) -> bool
     ensures { result ≡ is_plain b }
 {
-    if b < 0x21 {
-        return false;
-    }
-    if 0x7E < b {
-        return false;
-    }
-    b != 0x5D
+    b.is_ascii_graphic() && b != 0x5D
 }
 
-fn still_plain(plain: bool, b: u8) -> bool
-    ensures { result ≡ plain && is_plain b }
-{
-    if is_plain(b) {
-        return plain;
-    }
-    false
-}
-
-// Whether every byte from `from` on is plain. All are looked at: a loop with one way out is compiled to many bytes a turn.
-fn all_plain(s: &[u8], from: usize) -> bool
-    ensures { result ≡ all_plain (drop from s.now) }
+// Whether every byte is plain. All are looked at: a loop with one way out is compiled to many bytes a turn.
+fn all_plain(s: &[u8]) -> bool
+    ensures { result ≡ all_plain s.now }
 {
     let mut plain = true;
-    let mut i = from;
-    while i < s.len() {
-        plain = still_plain(plain, s[i]);
-        i += 1;
+    for b in s {
+        plain &= is_plain(*b);
     }
     plain
 }
@@ -234,9 +179,10 @@ fn text_ok(text: &[u8], plain: bool) -> bool
     ensures { result ≡ citable text.now }
 {
     if plain {
-        return 0 < text.len();
+        !text.is_empty()
+    } else {
+        is_citable(text)
     }
-    is_citable(text)
 }
 
 // `c` citation rows from the byte `from` on are those of citable texts from the byte `base` to the end; if `plain`, those bytes are known to be plain.
@@ -244,10 +190,9 @@ fn cites_ok(tree: &[u8], base: usize, c: usize, from: usize, plain: bool) -> boo
     requires { (base ≡ texts_at tree.now) × (from + cite_size * c ≤ length tree.now) × (base ≤ length tree.now) × PlainIf plain (drop base tree.now) }
     ensures { result ≡ cites_ok tree.now c from base }
 {
-    let mut left = c;
-    let mut at = from;
     let mut p = base;
-    while 0 < left {
+    for i in 0..c {
+        let at = from + CITE_SIZE * i;
         let o = get16(tree, at);
         let n = get16(tree, at + 2);
         if base + o != p {
@@ -260,8 +205,6 @@ fn cites_ok(tree: &[u8], base: usize, c: usize, from: usize, plain: bool) -> boo
         if !text_ok(&tree[p..e], plain) {
             return false;
         }
-        left -= 1;
-        at += CITE_SIZE;
         p = e;
     }
     p == tree.len()
@@ -283,7 +226,7 @@ pub fn is_tree(tree: &[u8]) -> bool
         return false;
     }
     let base = HEAD_SIZE + ROW_SIZE * n + CITE_SIZE * c;
-    let plain = all_plain(tree, base);
+    let plain = all_plain(&tree[base..]);
     cites_ok(tree, base, c, HEAD_SIZE + ROW_SIZE * n, plain)
 }
 
@@ -360,16 +303,14 @@ pub fn text_at(tree: &[u8], number: usize) -> &[u8]
 }
 
 // Where the text of a citation stands.
-pub fn cited(tree: &[u8], number: usize) -> CitedText
-    ensures { cited_said result ≡ cited_answer tree.now number }
+pub fn cited(tree: &[u8], number: usize) -> Result<Option<(usize, usize)>, Refusal>
+    ensures { result ≡ cited_answer tree.now number }
 {
     if !is_tree(tree) {
-        return CitedText::Refused(Refusal::NotATree);
+        return Err(Refusal::NotATree);
     }
     if cite_count(tree) <= number {
-        return CitedText::Absent;
+        return Ok(None);
     }
-    let start = text_start(tree, number);
-    let size = text_size(tree, number);
-    CitedText::At { start, size }
+    Ok(Some((text_start(tree, number), text_size(tree, number))))
 }

@@ -1,4 +1,5 @@
 -- A byte below 80 never lies inside a character. Assumes nothing.
+use Rattle.std.specs.Prelude.{Some, None}
 use Prim.Native.Nat.{ℕ, zero, suc, ◌+◌, ◌-◌, ◌*◌, ◌≤◌, ◌<◌}
 use mathlib.Core.Path.{◌≡◌, refl, sym, ap, ◌∙◌, subst}
 use mathlib.Core.Bool.{Bool, true, false, cond, ◌&&◌}
@@ -10,9 +11,7 @@ use lib.ListN.{length, get_or, drop, drop_of_length-le}
 use lib.Seq.{drop-cons}
 use borrow.Author.Tests.{ltb-true}
 use Rattle.laws.specs.Tests.{and_both, cond_both}
-use Rattle.utf8.specs.Utf8.{lead_of, within, with_lead, step_of, step_at, all_ascii, Place, between, inside, wrong, due, after, next, run, is_between, is_utf8, lead_codes, decode_from, decode}
-use Rattle.utf8.specs.declared.Lead.{Lead}
-use Rattle.utf8.specs.declared.Lead.TheVariants.{First, Never}
+use Rattle.utf8.specs.Utf8.{Lead, lead_of, within, with_lead, step_of, step_at, all_ascii, Place, between, inside, wrong, due, after, next, run, is_between, is_utf8, lead_codes, decode_from, decode}
 use Rattle.utf8.specs.declared.Step.TheVariants.{Char}
 use Rattle.utf8.proofs.Laws.{Small, lead_small, run_wrong, run_append, utf8_nil}
 use Rattle.utf8.proofs.Ranges.{below_range}
@@ -28,8 +27,8 @@ due_low zero low high code h = tt
 due_low (suc k) low high code h = h
 
 after_low : (l : Lead) → Small l → Low (after l)
-after_low Never h = tt
-after_low (First more low high code) h = due_low more low high code h.0
+after_low None h = tt
+after_low (Some (more, low, high, code)) h = due_low more low high code h.0
 
 next_low : (p : Place) (b : ℕ) → Low p → Low (next p b)
 next_low between b h = after_low (lead_of b) (lead_small b)

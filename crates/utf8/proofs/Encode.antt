@@ -1,4 +1,5 @@
 -- What is encoded is read back. Assumes nothing.
+use Rattle.std.specs.Prelude.{Some}
 use Prim.Native.Nat.{ℕ, suc, ◌+◌, ◌-◌, ◌*◌, ◌/◌, ◌%◌, ◌≤◌, ◌<◌}
 use mathlib.Core.Path.{◌≡◌, refl, ap, ◌∙◌}
 use mathlib.Core.Bool.{true}
@@ -11,7 +12,6 @@ use lib.ListN.{length}
 use lib.Seq.{drop-append_seam}
 use borrow.Author.Tests.{lt-ltb, le-ltb}
 use Rattle.utf8.specs.Utf8.{lead_of, code_of, step_of, is_utf8, decode, encode_char, encode, Scalar, Scalars}
-use Rattle.utf8.specs.declared.Lead.TheVariants.{First}
 use Rattle.utf8.specs.declared.Step.TheVariants.{Char}
 use Rattle.utf8.proofs.Ranges.{inside_range}
 use Rattle.utf8.proofs.Laws.{step_char, utf8_nil}
@@ -22,14 +22,14 @@ code_cons : (k low high code x : ℕ) (s : List ℕ) → low ≤ x → x ≤ hig
 code_cons k low high code x s h i = rw (inside_range low high x h i)
 
 -- a first byte and its row, and the bytes after it
-two : (b low high code x c : ℕ) (s : List ℕ) → lead_of b ≡ First 1 low high code → low ≤ x → x ≤ high → code * 64 + (x - 0x80) ≡ c → step_of (b ∷ x ∷ s) ≡ Char c 2
+two : (b low high code x c : ℕ) (s : List ℕ) → lead_of b ≡ Some (1, low, high, code) → low ≤ x → x ≤ high → code * 64 + (x - 0x80) ≡ c → step_of (b ∷ x ∷ s) ≡ Char c 2
 two b low high code x c s e h i v = rw (e, code_cons 0 low high code x s h i, v)
 
-three : (b low high code x y c : ℕ) (s : List ℕ) → lead_of b ≡ First 2 low high code → low ≤ x → x ≤ high → 0x80 ≤ y → y ≤ 0xBF → (code * 64 + (x - 0x80)) * 64 + (y - 0x80) ≡ c → step_of (b ∷ x ∷ y ∷ s) ≡ Char c 3
+three : (b low high code x y c : ℕ) (s : List ℕ) → lead_of b ≡ Some (2, low, high, code) → low ≤ x → x ≤ high → 0x80 ≤ y → y ≤ 0xBF → (code * 64 + (x - 0x80)) * 64 + (y - 0x80) ≡ c → step_of (b ∷ x ∷ y ∷ s) ≡ Char c 3
 three b low high code x y c s e h i j k v =
     rw (e, code_cons 1 low high code x (y ∷ s) h i, code_cons 0 0x80 0xBF (code * 64 + (x - 0x80)) y s j k, v)
 
-four : (b low high code x y z c : ℕ) (s : List ℕ) → lead_of b ≡ First 3 low high code → low ≤ x → x ≤ high → 0x80 ≤ y → y ≤ 0xBF → 0x80 ≤ z → z ≤ 0xBF → ((code * 64 + (x - 0x80)) * 64 + (y - 0x80)) * 64 + (z - 0x80) ≡ c → step_of (b ∷ x ∷ y ∷ z ∷ s) ≡ Char c 4
+four : (b low high code x y z c : ℕ) (s : List ℕ) → lead_of b ≡ Some (3, low, high, code) → low ≤ x → x ≤ high → 0x80 ≤ y → y ≤ 0xBF → 0x80 ≤ z → z ≤ 0xBF → ((code * 64 + (x - 0x80)) * 64 + (y - 0x80)) * 64 + (z - 0x80) ≡ c → step_of (b ∷ x ∷ y ∷ z ∷ s) ≡ Char c 4
 four b low high code x y z c s e h i j k l m v =
     rw (e, code_cons 2 low high code x (y ∷ z ∷ s) h i, code_cons 1 0x80 0xBF (code * 64 + (x - 0x80)) y (z ∷ s) j k, code_cons 0 0x80 0xBF ((code * 64 + (x - 0x80)) * 64 + (y - 0x80)) z s l m, v)
 
@@ -46,7 +46,7 @@ module _ (c : ℕ) (s : List ℕ) where
   unfolding Back
   back_2 h k = two (0xC0 + c / 64) 0x80 0xBF _ (0x80 + c % 64) c s (row_C2 (0xC0 + c / 64) (omega arith) (omega arith)) (omega arith) (omega arith) (omega arith)
 
-  third : (low high code : ℕ) → lead_of (0xE0 + c / 4096) ≡ First 2 low high code → low ≤ 0x80 + c / 64 % 64 → 0x80 + c / 64 % 64 ≤ high → (code * 64 + (0x80 + c / 64 % 64 - 0x80)) * 64 + (0x80 + c % 64 - 0x80) ≡ c → Back ((0xE0 + c / 4096) ∷ (0x80 + c / 64 % 64) ∷ (0x80 + c % 64) ∷ [])
+  third : (low high code : ℕ) → lead_of (0xE0 + c / 4096) ≡ Some (2, low, high, code) → low ≤ 0x80 + c / 64 % 64 → 0x80 + c / 64 % 64 ≤ high → (code * 64 + (0x80 + c / 64 % 64 - 0x80)) * 64 + (0x80 + c % 64 - 0x80) ≡ c → Back ((0xE0 + c / 4096) ∷ (0x80 + c / 64 % 64) ∷ (0x80 + c % 64) ∷ [])
   unfolding Back
   third low high code e h i v = three (0xE0 + c / 4096) low high code (0x80 + c / 64 % 64) (0x80 + c % 64) c s e h i (omega arith) (omega arith) v
 
@@ -63,7 +63,7 @@ module _ (c : ℕ) (s : List ℕ) where
         ]
       ]
 
-  fourth : (low high code : ℕ) → lead_of (0xF0 + c / 262144) ≡ First 3 low high code → low ≤ 0x80 + c / 4096 % 64 → 0x80 + c / 4096 % 64 ≤ high → ((code * 64 + (0x80 + c / 4096 % 64 - 0x80)) * 64 + (0x80 + c / 64 % 64 - 0x80)) * 64 + (0x80 + c % 64 - 0x80) ≡ c → Back ((0xF0 + c / 262144) ∷ (0x80 + c / 4096 % 64) ∷ (0x80 + c / 64 % 64) ∷ (0x80 + c % 64) ∷ [])
+  fourth : (low high code : ℕ) → lead_of (0xF0 + c / 262144) ≡ Some (3, low, high, code) → low ≤ 0x80 + c / 4096 % 64 → 0x80 + c / 4096 % 64 ≤ high → ((code * 64 + (0x80 + c / 4096 % 64 - 0x80)) * 64 + (0x80 + c / 64 % 64 - 0x80)) * 64 + (0x80 + c % 64 - 0x80) ≡ c → Back ((0xF0 + c / 262144) ∷ (0x80 + c / 4096 % 64) ∷ (0x80 + c / 64 % 64) ∷ (0x80 + c % 64) ∷ [])
   unfolding Back
   fourth low high code e h i v = four (0xF0 + c / 262144) low high code (0x80 + c / 4096 % 64) (0x80 + c / 64 % 64) (0x80 + c % 64) c s e h i (omega arith) (omega arith) (omega arith) (omega arith) v
 

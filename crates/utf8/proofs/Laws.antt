@@ -3,7 +3,7 @@ use Prim.Native.Nat.{ℕ, zero, suc, ◌+◌, ◌-◌, ◌*◌, ◌≤◌, ◌<�
 use mathlib.Core.Path.{◌≡◌, refl, sym, ap, ◌∙◌}
 use mathlib.Core.Bool.{Bool, true, false, cond}
 use mathlib.Core.List.{List, [], ◌∷◌, ◌++◌, append_assoc}
-use mathlib.Core.Option.{Option, none, some}
+use Rattle.std.specs.Prelude.{Option, Some, None}
 use native.Mathlib.Numerals.{add-one}
 use native.Mathlib.Omega.{arith}
 use lib.ListN.{length, get_or, drop, length-drop}
@@ -11,16 +11,14 @@ use lib.Seq.{drop-cons, drop-drop}
 use lib.Dec.{ltb}
 use borrow.Author.Tests.{ltb-true}
 use Rattle.laws.specs.Tests.{cond_both}
-use Rattle.utf8.specs.Utf8.{lead_of, within, code_of, char_of, with_lead, step_of, step_at, Place, between, inside, wrong, due, after, next, run, is_between, is_utf8, codes1, lead_codes, emit, decode_from, decode, char_count}
-use Rattle.utf8.specs.declared.Lead.{Lead}
-use Rattle.utf8.specs.declared.Lead.TheVariants.{First, Never}
+use Rattle.utf8.specs.Utf8.{Lead, lead_of, within, code_of, char_of, with_lead, step_of, step_at, Place, between, inside, wrong, due, after, next, run, is_between, is_utf8, codes1, lead_codes, emit, decode_from, decode, char_count}
 use Rattle.utf8.specs.declared.Step.TheVariants.{Char, Bad, End}
 use Rattle.utf8.proofs.Walk.{Cap}
 
 -- a row of the table: its second byte is a continuation, and its code is small
 abbrev pub Small : Lead → Type 0
-Small Never = Unit {0}
-Small (First more low high code) = (0x80 ≤ low) × (high ≤ 0xBF) × Cap code more × (more ≤ 3)
+Small None = Unit {0}
+Small (Some (more, low, high, code)) = (0x80 ≤ low) × (high ≤ 0xBF) × Cap code more × (more ≤ 3)
 
 pub lead_small : (b : ℕ) → Small (lead_of b)
 unfolding lead_of
@@ -43,14 +41,14 @@ step_lead s at h = rw (drop-cons s at 0 h, add-one)
 abbrev pub Done : (more : ℕ) → Place → List ℕ → List ℕ → ℕ → Type 0
 Done more p before s c = (run p s ≡ run between (drop more s)) × (before ++ decode_from p s ≡ c ∷ decode_from between (drop more s)) × (more ≤ length s)
 
-code_some : (more low high code : ℕ) (s : List ℕ) (c : ℕ) → code_of more low high code s ≡ some c → Done more (due more low high code) (codes1 more code) s c
+code_some : (more low high code : ℕ) (s : List ℕ) (c : ℕ) → code_of more low high code s ≡ Some c → Done more (due more low high code) (codes1 more code) s c
 code_some zero low high code s c e =
     let d : code ≡ c = cc in
     (refl, ap (λ (x : ℕ). x ∷ decode_from between s) d, zero-le)
 code_some (suc k) low high code [] c e = let z : ◌≡◌ {A = ℕ} 0 1 = cc in absurd (omega arith)
 code_some (suc k) low high code (b ∷ s) c e = go (within low high b) e (code_some k 0x80 0xBF (code * 64 + (b - 0x80)) s c)
   where
-    go : (t : Bool) → cond t (code_of k 0x80 0xBF (code * 64 + (b - 0x80)) s) none ≡ some c → (code_of k 0x80 0xBF (code * 64 + (b - 0x80)) s ≡ some c → Done k (due k 0x80 0xBF (code * 64 + (b - 0x80))) (codes1 k (code * 64 + (b - 0x80))) s c) → (run (cond t (due k 0x80 0xBF (code * 64 + (b - 0x80))) wrong) s ≡ run between (drop k s)) × (cond t (codes1 k (code * 64 + (b - 0x80))) [] ++ decode_from (cond t (due k 0x80 0xBF (code * 64 + (b - 0x80))) wrong) s ≡ c ∷ decode_from between (drop k s)) × (suc k ≤ suc (length s))
+    go : (t : Bool) → cond t (code_of k 0x80 0xBF (code * 64 + (b - 0x80)) s) None ≡ Some c → (code_of k 0x80 0xBF (code * 64 + (b - 0x80)) s ≡ Some c → Done k (due k 0x80 0xBF (code * 64 + (b - 0x80))) (codes1 k (code * 64 + (b - 0x80))) s c) → (run (cond t (due k 0x80 0xBF (code * 64 + (b - 0x80))) wrong) s ≡ run between (drop k s)) × (cond t (codes1 k (code * 64 + (b - 0x80))) [] ++ decode_from (cond t (due k 0x80 0xBF (code * 64 + (b - 0x80))) wrong) s ≡ c ∷ decode_from between (drop k s)) × (suc k ≤ suc (length s))
     go true e f = let d = f e in (d.0, d.1, suc-le-suc d.2)
     go false e f = let z : ◌≡◌ {A = ℕ} 0 1 = cc in absurd (omega arith)
 
@@ -69,12 +67,12 @@ Broken p before s = (is_between (run p s) ≡ false) × (before ++ decode_from p
 broken : (s : List ℕ) → Broken wrong [] s
 broken s = (ap is_between (run_wrong s), decode_wrong s)
 
-code_none : (more low high code : ℕ) (s : List ℕ) → code_of more low high code s ≡ none → Broken (due more low high code) (codes1 more code) s
+code_none : (more low high code : ℕ) (s : List ℕ) → code_of more low high code s ≡ None → Broken (due more low high code) (codes1 more code) s
 code_none zero low high code s e = let z : ◌≡◌ {A = ℕ} 0 1 = cc in absurd (omega arith)
 code_none (suc k) low high code [] e = (refl, refl)
 code_none (suc k) low high code (b ∷ s) e = go (within low high b) e (code_none k 0x80 0xBF (code * 64 + (b - 0x80)) s)
   where
-    go : (t : Bool) → cond t (code_of k 0x80 0xBF (code * 64 + (b - 0x80)) s) none ≡ none → (code_of k 0x80 0xBF (code * 64 + (b - 0x80)) s ≡ none → Broken (due k 0x80 0xBF (code * 64 + (b - 0x80))) (codes1 k (code * 64 + (b - 0x80))) s) → Broken (cond t (due k 0x80 0xBF (code * 64 + (b - 0x80))) wrong) (cond t (codes1 k (code * 64 + (b - 0x80))) []) s
+    go : (t : Bool) → cond t (code_of k 0x80 0xBF (code * 64 + (b - 0x80)) s) None ≡ None → (code_of k 0x80 0xBF (code * 64 + (b - 0x80)) s ≡ None → Broken (due k 0x80 0xBF (code * 64 + (b - 0x80))) (codes1 k (code * 64 + (b - 0x80))) s) → Broken (cond t (due k 0x80 0xBF (code * 64 + (b - 0x80))) wrong) (cond t (codes1 k (code * 64 + (b - 0x80))) []) s
     go true e f = f e
     go false e f = broken s
 
@@ -88,16 +86,16 @@ step_char (a ∷ s) c w e = lead (lead_of a) e
     Goal p l = (is_between (run p s) ≡ is_between (run between (drop w (a ∷ s)))) × (l ++ decode_from p s ≡ c ∷ decode_from between (drop w (a ∷ s))) × (1 ≤ w) × (w ≤ suc (length s))
 
     done : (more low high code : ℕ) (o : Option ℕ) → code_of more low high code s ≡ o → char_of more o ≡ Char c w → Goal (due more low high code) (codes1 more code)
-    done more low high code none h e = let z : ◌≡◌ {A = ℕ} 0 1 = cc in absurd (omega arith)
-    done more low high code (some x) h e =
+    done more low high code None h e = let z : ◌≡◌ {A = ℕ} 0 1 = cc in absurd (omega arith)
+    done more low high code (Some x) h e =
         let u : x ≡ c = cc in
         let v : suc more ≡ w = sym (add-one more) ∙ cc in
-        let d = code_some more low high code s c (h ∙ ap some u) in
+        let d = code_some more low high code s c (h ∙ ap Some u) in
         rw (← v) (ap is_between d.0, d.1, omega arith, suc-le-suc d.2)
 
     lead : (l : Lead) → with_lead l s ≡ Char c w → Goal (after l) (lead_codes l)
-    lead Never e = let z : ◌≡◌ {A = ℕ} 0 1 = cc in absurd (omega arith)
-    lead (First more low high code) e = done more low high code (code_of more low high code s) refl e
+    lead None e = let z : ◌≡◌ {A = ℕ} 0 1 = cc in absurd (omega arith)
+    lead (Some (more, low, high, code)) e = done more low high code (code_of more low high code s) refl e
 
 -- no character at the front: not UTF-8, and nothing is read
 bad : (s : List ℕ) → step_of s ≡ Bad → (is_utf8 s ≡ false) × (decode s ≡ [])
@@ -106,12 +104,12 @@ bad [] e = let z : ◌≡◌ {A = ℕ} 0 1 = cc in absurd (omega arith)
 bad (a ∷ s) e = lead (lead_of a) e
   where
     done : (more low high code : ℕ) (o : Option ℕ) → code_of more low high code s ≡ o → char_of more o ≡ Bad → Broken (due more low high code) (codes1 more code) s
-    done more low high code none h e = code_none more low high code s h
-    done more low high code (some x) h e = let z : ◌≡◌ {A = ℕ} 0 1 = cc in absurd (omega arith)
+    done more low high code None h e = code_none more low high code s h
+    done more low high code (Some x) h e = let z : ◌≡◌ {A = ℕ} 0 1 = cc in absurd (omega arith)
 
     lead : (l : Lead) → with_lead l s ≡ Bad → Broken (after l) (lead_codes l) s
-    lead Never e = broken s
-    lead (First more low high code) e = done more low high code (code_of more low high code s) refl e
+    lead None e = broken s
+    lead (Some (more, low, high, code)) e = done more low high code (code_of more low high code s) refl e
 
 pub step_bad : (s : List ℕ) → step_of s ≡ Bad → is_utf8 s ≡ false
 step_bad s e = (bad s e).0
@@ -125,12 +123,12 @@ step_end [] e = refl
 step_end (a ∷ s) e = lead (lead_of a) e
   where
     done : (more : ℕ) (o : Option ℕ) → char_of more o ≡ End → a ∷ s ≡ []
-    done more none e = let z : ◌≡◌ {A = ℕ} 0 1 = cc in absurd (omega arith)
-    done more (some x) e = let z : ◌≡◌ {A = ℕ} 0 1 = cc in absurd (omega arith)
+    done more None e = let z : ◌≡◌ {A = ℕ} 0 1 = cc in absurd (omega arith)
+    done more (Some x) e = let z : ◌≡◌ {A = ℕ} 0 1 = cc in absurd (omega arith)
 
     lead : (l : Lead) → with_lead l s ≡ End → a ∷ s ≡ []
-    lead Never e = let z : ◌≡◌ {A = ℕ} 0 1 = cc in absurd (omega arith)
-    lead (First more low high code) e = done more (code_of more low high code s) e
+    lead None e = let z : ◌≡◌ {A = ℕ} 0 1 = cc in absurd (omega arith)
+    lead (Some (more, low, high, code)) e = done more (code_of more low high code s) e
 
 -- joined text
 pub run_append : (p : Place) (a b : List ℕ) → run p (a ++ b) ≡ run (run p a) b

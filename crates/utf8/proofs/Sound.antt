@@ -3,7 +3,7 @@ use Prim.Native.Nat.{ℕ, zero, suc, ◌+◌, ◌-◌, ◌*◌, ◌/◌, ◌%◌
 use mathlib.Core.Path.{◌≡◌, refl, sym, ap, ◌∙◌}
 use mathlib.Core.Bool.{Bool, true, false, cond}
 use mathlib.Core.List.{List, [], ◌∷◌, ◌++◌}
-use mathlib.Core.Option.{Option, none, some}
+use Rattle.std.specs.Prelude.{Option, Some, None}
 use mathlib.Core.Logic.{◌⊎◌, inl, inr, ⊎_elim}
 use native.Mathlib.Nat.{div-div-eq-div-mul}
 use native.Mathlib.Numerals.{add-one}
@@ -13,9 +13,7 @@ use lib.Arith.{digits_div, digits_mod}
 use lib.Dec.{ltb}
 use borrow.Author.Tests.{lt-ltb, le-ltb, ltb-true, ltb-false}
 use Rattle.laws.specs.Tests.{cond_both}
-use Rattle.utf8.specs.Utf8.{lead_of, within, code_of, char_of, with_lead, step_of, is_utf8, decode, encode_char, encode, Scalar, Scalars}
-use Rattle.utf8.specs.declared.Lead.{Lead}
-use Rattle.utf8.specs.declared.Lead.TheVariants.{First, Never}
+use Rattle.utf8.specs.Utf8.{Lead, lead_of, within, code_of, char_of, with_lead, step_of, is_utf8, decode, encode_char, encode, Scalar, Scalars}
 use Rattle.utf8.specs.declared.Step.{Step}
 use Rattle.utf8.specs.declared.Step.TheVariants.{Char, Bad, End}
 use Rattle.utf8.proofs.Ranges.{within_both}
@@ -23,13 +21,13 @@ use Rattle.utf8.proofs.Laws.{step_char, step_bad, step_end, decode_nil}
 
 -- the byte that was read
 abbrev Byte : (k low high code : ℕ) → List ℕ → ℕ → Type 0
-Byte k low high code s c = (x : ℕ) × (t : List ℕ) × (s ≡ x ∷ t) × (low ≤ x) × (x ≤ high) × (code_of k 0x80 0xBF (code * 64 + (x - 0x80)) t ≡ some c)
+Byte k low high code s c = (x : ℕ) × (t : List ℕ) × (s ≡ x ∷ t) × (low ≤ x) × (x ≤ high) × (code_of k 0x80 0xBF (code * 64 + (x - 0x80)) t ≡ Some c)
 
-read_byte : (k low high code : ℕ) (s : List ℕ) (c : ℕ) → code_of (suc k) low high code s ≡ some c → Byte k low high code s c
+read_byte : (k low high code : ℕ) (s : List ℕ) (c : ℕ) → code_of (suc k) low high code s ≡ Some c → Byte k low high code s c
 read_byte k low high code [] c e = let z : ◌≡◌ {A = ℕ} 0 1 = cc in absurd (omega arith)
 read_byte k low high code (x ∷ t) c e = go (within low high x) refl e
   where
-    go : (q : Bool) → within low high x ≡ q → cond q (code_of k 0x80 0xBF (code * 64 + (x - 0x80)) t) none ≡ some c → Byte k low high code (x ∷ t) c
+    go : (q : Bool) → within low high x ≡ q → cond q (code_of k 0x80 0xBF (code * 64 + (x - 0x80)) t) None ≡ Some c → Byte k low high code (x ∷ t) c
     go true h e = let r = within_both low high x h in (x, t, refl, r.0, r.1, e)
     go false h e = let z : ◌≡◌ {A = ℕ} 0 1 = cc in absurd (omega arith)
 
@@ -57,19 +55,19 @@ unfolding encode_char
 bytes_4 c h = simp (le-ltb c 0x80 (omega arith), le-ltb c 0x800 (omega arith), le-ltb c 0x10000 h)
 
 abbrev Sound : ℕ → Lead → Type 0
-Sound b Never = Unit {0}
-Sound b (First more low high code) = (s : List ℕ) (c : ℕ) → code_of more low high code s ≡ some c → Scalar c × (encode_char c ++ drop more s ≡ b ∷ s)
+Sound b None = Unit {0}
+Sound b (Some (more, low, high, code)) = (s : List ℕ) (c : ℕ) → code_of more low high code s ≡ Some c → Scalar c × (encode_char c ++ drop more s ≡ b ∷ s)
 
-sound_1 : (b : ℕ) → b < 0x80 → Sound b (First 0 0x80 0xBF b)
+sound_1 : (b : ℕ) → b < 0x80 → Sound b (Some (0, 0x80, 0xBF, b))
 unfolding encode_char
 sound_1 b h s c e =
     let d : b ≡ c = cc in
     (inl (omega arith), rw (← d) (simp (lt-ltb b 0x80 h)))
 
-some_inj : {m n : ℕ} → some m ≡ some n → m ≡ n
+some_inj : {m n : ℕ} → Some m ≡ Some n → m ≡ n
 some_inj g = cc
 
-sound_2 : (b : ℕ) → 0xC2 ≤ b → b < 0xE0 → Sound b (First 1 0x80 0xBF (b - 0xC0))
+sound_2 : (b : ℕ) → 0xC2 ≤ b → b < 0xE0 → Sound b (Some (1, 0x80, 0xBF, b - 0xC0))
 sound_2 b h k s c e =
     let r = read_byte 0 0x80 0xBF (b - 0xC0) s c e in
     let x = r.0 in
@@ -80,7 +78,7 @@ sound_2 b h k s c e =
     (inl (omega (arith, r.3, r.4)), rw (r.2, bytes_2 c (omega (arith, r.3, r.4)) (omega (arith, r.3, r.4)), p, q))
 
 -- three bytes: the first two give v, neither short nor a surrogate's
-sound_3 : (b low high code : ℕ) → 0xE0 + code ≡ b → code < 16 → 0x80 ≤ low → high ≤ 0xBF → ((x : ℕ) → low ≤ x → x ≤ high → (0x20 ≤ code * 64 + (x - 0x80)) × ((code * 64 + (x - 0x80) < 0x360) ⊎ (0x380 ≤ code * 64 + (x - 0x80)))) → Sound b (First 2 low high code)
+sound_3 : (b low high code : ℕ) → 0xE0 + code ≡ b → code < 16 → 0x80 ≤ low → high ≤ 0xBF → ((x : ℕ) → low ≤ x → x ≤ high → (0x20 ≤ code * 64 + (x - 0x80)) × ((code * 64 + (x - 0x80) < 0x360) ⊎ (0x380 ≤ code * 64 + (x - 0x80)))) → Sound b (Some (2, low, high, code))
 sound_3 b low high code eb hc hl hh ok s c e =
     let r = read_byte 1 low high code s c e in
     let x = r.0 in
@@ -121,7 +119,7 @@ sound_3 b low high code eb hc hl hh ok s c e =
     below : (v y c : ℕ) → v * 64 + (y - 0x80) ≡ c → v < 1024 → y ≤ 0xBF → c < 0x10000
     below v y c d z k = omega arith
 
-sound_4 : (b low high code : ℕ) → 0xF0 + code ≡ b → 0x80 ≤ low → high ≤ 0xBF → ((x : ℕ) → low ≤ x → x ≤ high → (0x10 ≤ code * 64 + (x - 0x80)) × (code * 64 + (x - 0x80) < 0x110)) → Sound b (First 3 low high code)
+sound_4 : (b low high code : ℕ) → 0xF0 + code ≡ b → 0x80 ≤ low → high ≤ 0xBF → ((x : ℕ) → low ≤ x → x ≤ high → (0x10 ≤ code * 64 + (x - 0x80)) × (code * 64 + (x - 0x80) < 0x110)) → Sound b (Some (3, low, high, code))
 sound_4 b low high code eb hl hh ok s c e =
     let r = read_byte 2 low high code s c e in
     let x = r.0 in
@@ -169,16 +167,16 @@ pub step_sound : (s : List ℕ) (c w : ℕ) → step_of s ≡ Char c w → Scala
 step_sound [] c w e = let z : ◌≡◌ {A = ℕ} 0 1 = cc in absurd (omega arith)
 step_sound (b ∷ s) c w e = lead (lead_of b) (sound_lead b) e
   where
-    done : (more low high code : ℕ) → Sound b (First more low high code) → (o : Option ℕ) → code_of more low high code s ≡ o → char_of more o ≡ Char c w → Scalar c × (encode_char c ++ drop w (b ∷ s) ≡ b ∷ s)
-    done more low high code f none h e = let z : ◌≡◌ {A = ℕ} 0 1 = cc in absurd (omega arith)
-    done more low high code f (some x) h e =
+    done : (more low high code : ℕ) → Sound b (Some (more, low, high, code)) → (o : Option ℕ) → code_of more low high code s ≡ o → char_of more o ≡ Char c w → Scalar c × (encode_char c ++ drop w (b ∷ s) ≡ b ∷ s)
+    done more low high code f None h e = let z : ◌≡◌ {A = ℕ} 0 1 = cc in absurd (omega arith)
+    done more low high code f (Some x) h e =
         let u : x ≡ c = cc in
         let v : suc more ≡ w = sym (add-one more) ∙ cc in
-        rw (← v) (f s c (h ∙ ap some u))
+        rw (← v) (f s c (h ∙ ap Some u))
 
     lead : (l : Lead) → Sound b l → with_lead l s ≡ Char c w → Scalar c × (encode_char c ++ drop w (b ∷ s) ≡ b ∷ s)
-    lead Never f e = let z : ◌≡◌ {A = ℕ} 0 1 = cc in absurd (omega arith)
-    lead (First more low high code) f e = done more low high code f (code_of more low high code s) refl e
+    lead None f e = let z : ◌≡◌ {A = ℕ} 0 1 = cc in absurd (omega arith)
+    lead (Some (more, low, high, code)) f e = done more low high code f (code_of more low high code s) refl e
 
 at_nil : (s : List ℕ) → s ≡ [] → Scalars (decode s) × (encode (decode s) ≡ s)
 at_nil s e = rw (e, decode_nil) (tt, refl)

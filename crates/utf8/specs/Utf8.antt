@@ -1,26 +1,27 @@
 -- UTF-8 as the Unicode Standard's table 3-7 has it: the first byte says how many bytes follow, between which bytes the second
 -- one stands, and what the first gives to the code. Every later byte stands between 80 and BF and gives six bits. Assumes nothing.
-use Rattle.std.specs.Prelude.{ℕ, zero, suc, ◌+◌, ◌-◌, ◌*◌, ◌/◌, ◌%◌, ◌<◌, ◌≤◌, ◌⊎◌, List, [], ◌∷◌, ◌++◌, Bool, true, false, cond, ◌&&◌, length, drop, ltb, leb}
-use Rattle.std.proofs.Math.Option.{Option, none, some}
-use Rattle.utf8.specs.declared.Lead.{Lead}
-use Rattle.utf8.specs.declared.Lead.TheVariants.{First, Never}
+use Rattle.std.specs.Prelude.{ℕ, zero, suc, ◌+◌, ◌-◌, ◌*◌, ◌/◌, ◌%◌, ◌<◌, ◌≤◌, ◌⊎◌, List, [], ◌∷◌, ◌++◌, Bool, true, false, cond, ◌&&◌, length, drop, ltb, leb, Option, Some, None, Result, Ok, Err}
 use Rattle.utf8.specs.declared.Step.{Step}
 use Rattle.utf8.specs.declared.Step.TheVariants.{Char, Bad, End}
 
--- table 3-7, by first byte: more bytes, the second one's range, the first one's part of the code
+-- a row of table 3-7: more bytes, the second one's range, the first one's part of the code; none of a byte that begins no character
+abbrev pub Lead : Type 0
+Lead = Option (ℕ × ℕ × ℕ × ℕ)
+
+-- table 3-7, by first byte
 unfoldable pub lead_of : ℕ → Lead
 lead_of b =
-    cond (ltb b 0x80) (First 0 0x80 0xBF b)  -- 00..7F
-    (cond (ltb b 0xC2) Never  -- 80..C1
-    (cond (ltb b 0xE0) (First 1 0x80 0xBF (b - 0xC0))  -- C2..DF
-    (cond (ltb b 0xE1) (First 2 0xA0 0xBF 0)  -- E0
-    (cond (ltb b 0xED) (First 2 0x80 0xBF (b - 0xE0))  -- E1..EC
-    (cond (ltb b 0xEE) (First 2 0x80 0x9F 13)  -- ED
-    (cond (ltb b 0xF0) (First 2 0x80 0xBF (b - 0xE0))  -- EE..EF
-    (cond (ltb b 0xF1) (First 3 0x90 0xBF 0)  -- F0
-    (cond (ltb b 0xF4) (First 3 0x80 0xBF (b - 0xF0))  -- F1..F3
-    (cond (ltb b 0xF5) (First 3 0x80 0x8F 4)  -- F4
-    Never)))))))))  -- F5..FF
+    cond (ltb b 0x80) (Some (0, 0x80, 0xBF, b))  -- 00..7F
+    (cond (ltb b 0xC2) None  -- 80..C1
+    (cond (ltb b 0xE0) (Some (1, 0x80, 0xBF, b - 0xC0))  -- C2..DF
+    (cond (ltb b 0xE1) (Some (2, 0xA0, 0xBF, 0))  -- E0
+    (cond (ltb b 0xED) (Some (2, 0x80, 0xBF, b - 0xE0))  -- E1..EC
+    (cond (ltb b 0xEE) (Some (2, 0x80, 0x9F, 13))  -- ED
+    (cond (ltb b 0xF0) (Some (2, 0x80, 0xBF, b - 0xE0))  -- EE..EF
+    (cond (ltb b 0xF1) (Some (3, 0x90, 0xBF, 0))  -- F0
+    (cond (ltb b 0xF4) (Some (3, 0x80, 0xBF, b - 0xF0))  -- F1..F3
+    (cond (ltb b 0xF5) (Some (3, 0x80, 0x8F, 4))  -- F4
+    None)))))))))  -- F5..FF
 
 -- a byte that stands in a range, both ends included
 abbrev pub within : ℕ → ℕ → ℕ → Bool
@@ -28,20 +29,20 @@ within low high b = leb low b && leb b high
 
 -- the code that the next bytes complete, where `more` of them are due and the first of those stands between low and high
 abbrev pub code_of : (more low high code : ℕ) → List ℕ → Option ℕ
-code_of zero low high code s = some code
-code_of (suc k) low high code [] = none
+code_of zero low high code s = Some code
+code_of (suc k) low high code [] = None
 code_of (suc k) low high code (b ∷ s) =
-    cond (within low high b) (code_of k 0x80 0xBF (code * 64 + (b - 0x80)) s) none
+    cond (within low high b) (code_of k 0x80 0xBF (code * 64 + (b - 0x80)) s) None
 
 -- a completed code as a character of `more` bytes and its first
 abbrev pub char_of : ℕ → Option ℕ → Step
-char_of more none = Bad
-char_of more (some c) = Char c (more + 1)
+char_of more None = Bad
+char_of more (Some c) = Char c (more + 1)
 
 -- the character of a first byte's row and the bytes after that byte
 abbrev pub with_lead : Lead → List ℕ → Step
-with_lead Never s = Bad
-with_lead (First more low high code) s = char_of more (code_of more low high code s)
+with_lead None s = Bad
+with_lead (Some (more, low, high, code)) s = char_of more (code_of more low high code s)
 
 -- the character that a list of bytes begins with
 abbrev pub step_of : List ℕ → Step
@@ -65,8 +66,8 @@ due (suc k) low high code = inside k low high code
 
 -- the place after a first byte
 abbrev pub after : Lead → Place
-after Never = wrong
-after (First more low high code) = due more low high code
+after None = wrong
+after (Some (more, low, high, code)) = due more low high code
 
 -- the place after one byte more
 abbrev pub next : Place → ℕ → Place
@@ -101,8 +102,8 @@ codes1 (suc k) code = []
 
 -- the code that a first byte completes
 abbrev pub lead_codes : Lead → List ℕ
-lead_codes Never = []
-lead_codes (First more low high code) = codes1 more code
+lead_codes None = []
+lead_codes (Some (more, low, high, code)) = codes1 more code
 
 -- the code that a byte completes
 abbrev pub emit : Place → ℕ → List ℕ
@@ -115,13 +116,17 @@ abbrev pub decode_from : Place → List ℕ → List ℕ
 decode_from p [] = []
 decode_from p (b ∷ s) = emit p b ++ decode_from (next p b) s
 
--- the codes of the characters up to the end, or to the first byte that fits none
+-- the codes of the characters up to the end, or to the first byte that fits None
 unfoldable pub decode : List ℕ → List ℕ
 decode s = decode_from between s
 
 -- how many characters
 unfoldable pub char_count : List ℕ → ℕ
 char_count s = length (decode s)
+
+-- how many characters: of a whole text, or up to the first byte that fits none
+abbrev pub scanned : List ℕ → Result ℕ ℕ
+scanned s = cond (is_utf8 s) (Ok (char_count s)) (Err (char_count s))
 
 -- the bytes of a code
 unfoldable pub encode_char : ℕ → List ℕ

@@ -1,16 +1,19 @@
 -- The walk over the rows: a node's truth by its operands' tally, numbers one after another, and what `truth` and `violations` answer. Assumes nothing.
+use Rattle.std.specs.Prelude.{Result, Ok, Err}
 use mathlib.Core.Path.{◌≡◌, refl, sym, ap, ◌∙◌, subst}
 use mathlib.Core.List.{List, [], ◌∷◌, ◌++◌, append_assoc, append-nil}
-use mathlib.Core.Bool.{Bool, true, false, ◌||◌}
+use mathlib.Core.Logic.{◌⊎◌, inl, inr}
+use mathlib.Core.Bool.{Bool, true, false, not}
 use Prim.Native.Nat.{ℕ, zero, suc, ◌+◌, ◌-◌, ◌/◌, ◌≤◌, ◌<◌}
 use native.Mathlib.Omega.{arith}
 use lib.ListN.{length, take, length-append}
 use borrow.Author.Tests.{lt-ltb, le-ltb}
-use Rattle.refusal.specs.Result.{Result, ok, refused, refuse, then, map_ok}
+use Rattle.refusal.specs.Result.{then, map_ok}
 use Rattle.refusal.specs.declared.Refusal.{Refusal}
 use Rattle.refusal.specs.declared.Refusal.TheVariants.{NotATree, NoRoom, WrongAnswers}
 use Rattle.utf8.specs.Limits.{value_limit, admitted}
 use Rattle.citation.specs.declared.ConditionKind.{ConditionKind}
+use Rattle.citation.specs.declared.ConditionKind.TheVariants.{Voraussetzung, Hinweis, Format, Wiederholbarkeit, Zeitpunkt, Paket, Other}
 use Rattle.citation.specs.Kinds.{kind_of}
 use Rattle.citation.specs.declared.Truth.{Truth}
 use Rattle.citation.specs.declared.Truth.TheVariants.{False, Unknown, True, Neutral}
@@ -23,36 +26,67 @@ use Rattle.grammar.proofs.Sizes.{few-nodes}
 use Rattle.grammar.specs.Bytes.{two_bytes, nodes, cites, is_tree, forest_at, tree_at}
 use Rattle.grammar.specs.Outcome.{Outcome, answer_of, written_of}
 use Rattle.grammar.proofs.Outcome.{answer_fits, written_fits, answer_short, written_short}
-use Rattle.semantics.specs.Rules.{is_false, is_unknown, is_true, any, and_rule, or_rule}
+use Rattle.semantics.specs.Rules.{is_false}
 use Rattle.semantics.specs.Truth.{is_judged, truth_with, truths_with, cited_truth, counts_on, truth}
 use Rattle.semantics.specs.Violations.{violated, violated_of, violations_with, violations, number_bytes}
 use Rattle.semantics.proofs.Sizes.{numbers_length, violated_few}
 use Rattle.semantics.specs.Presence.{answers_fit}
 use Rattle.semantics.specs.Answers.{presence_by, numbered, truth_answer, violations_answer, eval_and_truth_answer}
-use Rattle.presence.specs.declared.EvalAnswer.{EvalAnswer}
-use Rattle.presence.specs.declared.EvalAnswer.TheVariants as eval
-use Rattle.presence.specs.Said.{eval_said}
 use Rattle.fields.specs.Appended.{Appended}
 use Rattle.fields.proofs.Appends.{nothing, both, same, whole, two_size}
 use Rattle.tree.specs.Walk.{node_kind, number_at, first_at, text_at}
 use Rattle.tree.proofs.Walks.{Walk, Next, leaf, root, no-tree, children-at, first_below, walk_begins, walk_next}
-use Rattle.verdicts.specs.declared.Tally.{Tally}
+use denote.Enum.Bare.{sameb}
+use Rattle.citation.specs.contracts.Truth.{the_type}
+use Rattle.presence.specs.declared.Tally.{Tally}
+use Rattle.presence.specs.Tallies.{no_tally, added, tallied}
+use Rattle.presence.proofs.Tallies.{and_ruled, or_ruled, tallied_last, tallied_none}
 use Rattle.verdicts.specs.declared.Judged.{Judged}
-use Rattle.verdicts.specs.Tallies.{no_truths, with_truth, tally_of, every_of, some_of, rule_of}
+use Rattle.verdicts.specs.Tallies.{rule_of}
 use Rattle.verdicts.specs.Judged.{cited_numbers, numbers_at, CitedJudged, RowJudged}
 use Rattle.grammar.specs.Reading.{node_limit}
 
+other_kind : (k : ConditionKind) → (k ≡ Format → ⊥) → (k ≡ Zeitpunkt → ⊥) → is_judged k ≡ false
+other_kind Voraussetzung f z = refl
+other_kind Hinweis f z = refl
+other_kind Format f z = absurd (f refl)
+other_kind Wiederholbarkeit f z = refl
+other_kind Zeitpunkt f z = absurd (z refl)
+other_kind Paket f z = refl
+other_kind Other f z = refl
+
 -- not judged: True
-pub cited_true : (value text : List ℕ) (k : ConditionKind) (x : Bool) → x ≡ false → x ≡ is_judged k → k ≡ kind_of text → True ≡ cited_truth value text
+pub cited_true : (value text : List ℕ) (k : ConditionKind) → (k ≡ Format → ⊥) → (k ≡ Zeitpunkt → ⊥) → k ≡ kind_of text → True ≡ cited_truth value text
 unfolding cited_truth
-cited_true value text k x f e g = let no : is_judged (kind_of text) ≡ false = sym (ap is_judged g) ∙ sym e ∙ f in rw no
+cited_true value text k f z g = let no : is_judged (kind_of text) ≡ false = sym (ap is_judged g) ∙ other_kind k f z in rw no
+
+judged_kind : (k : ConditionKind) → (k ≡ Format) ⊎ (k ≡ Zeitpunkt) → is_judged k ≡ true
+judged_kind k (inl e) = ap is_judged e
+judged_kind k (inr e) = ap is_judged e
 
 -- judged: as the verdict counts
-pub cited_judged : (value text : List ℕ) (k : ConditionKind) (x : Bool) (v : FormatVerdict) (t : Truth) → x ≡ true → x ≡ is_judged k → k ≡ kind_of text → v ≡ verdict text value → t ≡ verdict_truth v → t ≡ cited_truth value text
+pub cited_judged : (value text : List ℕ) (k : ConditionKind) {t : Truth} → (k ≡ Format) ⊎ (k ≡ Zeitpunkt) → k ≡ kind_of text → t ≡ verdict_truth (verdict text value) → t ≡ cited_truth value text
 unfolding cited_truth
-cited_judged value text k x v t f e g h i =
-    let yes : is_judged (kind_of text) ≡ true = sym (ap is_judged g) ∙ sym e ∙ f in
-    i ∙ ap verdict_truth h ∙ rw yes
+cited_judged value text k e g h =
+    let yes : is_judged (kind_of text) ≡ true = sym (ap is_judged g) ∙ judged_kind k e in
+    h ∙ rw yes
+
+-- how `==` tests a truth
+pub said_false : (v : Truth) → sameb the_type v False ≡ is_false v
+said_false False = refl
+said_false Unknown = refl
+said_false True = refl
+said_false Neutral = refl
+
+said_not : (v : Truth) → not (not (sameb the_type v False)) ≡ is_false v
+said_not False = refl
+said_not Unknown = refl
+said_not True = refl
+said_not Neutral = refl
+
+-- and `!=`
+pub said_other : (v : Truth) {x y : Bool} → x ≡ not (sameb the_type v False) → x ≡ y → is_false v ≡ not y
+said_other v e f = sym (said_not v) ∙ ap not (sym e ∙ f)
 
 two_bytes_lem : (n : ℕ) → number_bytes (n ∷ []) ≡ two_bytes n
 unfolding number_bytes
@@ -77,43 +111,15 @@ module _ (value : List ℕ) (n : ℕ) (text : List ℕ) (t : Truth) (x : Bool) (
 pub cited_room : (n : ℕ) (bytes : List ℕ) → two_bytes n ≡ bytes → length bytes ≡ 2
 cited_room n bytes h = ap length (sym h) ∙ two_size n
 
-any_snoc : {A : Type 0} (p : A → Bool) (vs : List A) (v : A) → any p (vs ++ (v ∷ [])) ≡ p v || any p vs
-unfolding any
-any_snoc p [] v = refl
-any_snoc p (u ∷ vs) v = ap (λ x. p u || x) (any_snoc p vs v) ∙ swap (p u) (p v) (any p vs)
-  where
-    swap : (a b c : Bool) → a || (b || c) ≡ b || (a || c)
-    swap true true c = refl
-    swap true false c = refl
-    swap false true c = refl
-    swap false false c = refl
-
-tally_of_lem : (vs : List Truth) (v : Truth) → record { no = is_false v || any is_false vs; unknown = is_unknown v || any is_unknown vs; yes = is_true v || any is_true vs } ≡ with_truth (tally_of vs) v
-unfolding tally_of
-tally_of_lem vs False = refl
-tally_of_lem vs Unknown = refl
-tally_of_lem vs True = refl
-tally_of_lem vs Neutral = refl
-
--- one truth more
-pub tally_next : (vs : List Truth) (v : Truth) → with_truth (tally_of vs) v ≡ tally_of (vs ++ (v ∷ []))
-unfolding tally_of
-tally_next vs v = sym (tally_of_lem vs v) ∙ rw (any_snoc is_false vs v, any_snoc is_unknown vs v, any_snoc is_true vs v)
-
--- none yet
-pub tally_none : no_truths ≡ tally_of []
-unfolding tally_of any
-tally_none = refl
-
 module _ (value : List ℕ) where
   -- a node's truth, by its operands'
-  pub node-truth : (n : ℕ) (e : Expr) → (node_kind e ≡ 0 → ⊥) → rule_of (node_kind e) (tally_of (truths_with (counts_on value) n (children e))) ≡ truth_with (counts_on value) n e
-  unfolding rule_of tally_of node_kind op_kind children truth_with and_rule or_rule
+  pub node-truth : (n : ℕ) (e : Expr) → (node_kind e ≡ 0 → ⊥) → rule_of (node_kind e) (tallied no_tally (truths_with (counts_on value) n (children e))) ≡ truth_with (counts_on value) n e
+  unfolding rule_of node_kind op_kind children truth_with
   node-truth n (cite t) h = absurd (h refl)
-  node-truth n (Then es) h = refl
-  node-truth n (join And es) h = refl
-  node-truth n (join Or es) h = refl
-  node-truth n (join Xor es) h = refl
+  node-truth n (Then es) h = sym (and_ruled (truths_with (counts_on value) n es))
+  node-truth n (join And es) h = sym (and_ruled (truths_with (counts_on value) n es))
+  node-truth n (join Or es) h = sym (or_ruled (truths_with (counts_on value) n es))
+  node-truth n (join Xor es) h = sym (or_ruled (truths_with (counts_on value) n es))
 
   -- and its numbers
   pub node_violated : (n : ℕ) (e : Expr) → (node_kind e ≡ 0 → ⊥) → violated_of (counts_on value) n (children e) ≡ violated (counts_on value) n e
@@ -132,7 +138,7 @@ pub record State (value b : List ℕ) (row left child : ℕ) (tally : Tally) (at
   pub walk : Walk b row left child
   pub vs : List Truth
   pub judged : truths_with (counts_on value) (first_at b row) (children (tree_at b row)) ≡ vs ++ truths_with (counts_on value) (first_at b child) (firsts left (forest_at b child))
-  pub tallied : tally ≡ tally_of vs
+  pub met : tally ≡ tallied no_tally vs
   pub ns : List ℕ
   pub numbers : violated_of (counts_on value) (first_at b row) (children (tree_at b row)) ≡ ns ++ violated_of (counts_on value) (first_at b child) (firsts left (forest_at b child))
   pub written : Appended (number_bytes ns) at base list w
@@ -185,7 +191,7 @@ leaf_numbers value n m t e h i = sym (rw (h, ← i))
 
 module _ (value b : List ℕ) (tree : is_tree b ≡ true) where
   -- before the first child
-  pub state_begins : (row at : ℕ) (base : List ℕ) → row < nodes b → (node_kind (tree_at b row) ≡ 0 → ⊥) → State value b row (number_at b row) (row + 1) no_truths at base base at
+  pub state_begins : (row at : ℕ) (base : List ℕ) → row < nodes b → (node_kind (tree_at b row) ≡ 0 → ⊥) → State value b row (number_at b row) (row + 1) no_tally at base base at
   state_begins row at base l k =
       let w = walk_begins b tree row l k in
       let kids = (children-at b tree row l k).0 in
@@ -193,7 +199,7 @@ module _ (value b : List ℕ) (tree : is_tree b ≡ true) where
         walk = w;
         vs = [];
         judged = ap (truths_with (counts_on value) (first_at b row)) kids ∙ ap (λ (x : ℕ). truths_with (counts_on value) x (firsts (number_at b row) (forest_at b (row + 1)))) (sym (first_below b tree row l k));
-        tallied = tally_none;
+        met = tallied_none no_tally;
         ns = [];
         numbers = ap (violated_of (counts_on value) (first_at b row)) kids ∙ ap (λ (x : ℕ). violated_of (counts_on value) x (firsts (number_at b row) (forest_at b (row + 1)))) (sym (first_below b tree row l k));
         written = same (sym no_bytes) (nothing at base);
@@ -201,7 +207,7 @@ module _ (value b : List ℕ) (tree : is_tree b ≡ true) where
       }
 
   -- the same, by what the code has
-  pub state_starts : (row at m : ℕ) (base : List ℕ) (tally : Tally) → row < nodes b → (node_kind (tree_at b row) ≡ 0 → ⊥) → m ≡ number_at b row → tally ≡ no_truths → State value b row m (row + 1) tally at base base at
+  pub state_starts : (row at m : ℕ) (base : List ℕ) (tally : Tally) → row < nodes b → (node_kind (tree_at b row) ≡ 0 → ⊥) → m ≡ number_at b row → tally ≡ no_tally → State value b row m (row + 1) tally at base base at
   state_starts row at m base tally l k e f =
       subst (λ (x : ℕ). State value b row x (row + 1) tally at base base at) (sym e) (subst (λ x. State value b row (number_at b row) (row + 1) x at base base at) (sym f) (state_begins row at base l k))
 
@@ -236,7 +242,7 @@ module _ (value b : List ℕ) (tree : is_tree b ≡ true) where
         omega (arith, room, s.kept, s.written.ends, numbers_length (violated (counts_on value) first (tree_at b row)), numbers_length s.ns, numbers_length here, ap length all, length-append s.ns (here ++ after), length-append here after)
 
     -- after it
-    pub state_again : {new : List ℕ} (size : ℕ) (r : Judged) → size ≡ span (tree_at b child) → RowJudged value b child w list new r → length new ≡ length list → {after : Tally} → after ≡ with_truth tally r.truth
+    pub state_again : {new : List ℕ} (size : ℕ) (r : Judged) → size ≡ span (tree_at b child) → RowJudged value b child w list new r → length new ≡ length list → {after : Tally} → after ≡ added tally r.truth
         → State value b row (left - 1) (child + size) after at base new r.at
     unfolding numbers_at
     state_again {new} size r z j k {after} t =
@@ -249,7 +255,7 @@ module _ (value b : List ℕ) (tree : is_tree b ≡ true) where
           walk = state_next.walk;
           vs = s.vs ++ (one ∷ []);
           judged = s.judged ∙ ap (λ x. s.vs ++ x) cut_truths ∙ sym (append_assoc s.vs (one ∷ []) (truths_with (counts_on value) (first_at b (child + span e)) rest));
-          tallied = t ∙ ap (λ x. with_truth x r.truth) s.tallied ∙ ap (with_truth (tally_of s.vs)) j.is ∙ tally_next s.vs one;
+          met = t ∙ ap (λ x. added x r.truth) s.met ∙ ap (added (tallied no_tally s.vs)) j.is ∙ tallied_last no_tally s.vs one;
           ns = s.ns ++ here;
           numbers = s.numbers ∙ ap (λ x. s.ns ++ x) cut_numbers ∙ sym (append_assoc s.ns here (violated_of (counts_on value) (first_at b (child + span e)) rest));
           written = same (sym (numbers_append s.ns here)) (both s.written j.written);
@@ -267,7 +273,7 @@ module _ (value b : List ℕ) (tree : is_tree b ≡ true) where
       let ns : violated_of (counts_on value) (first_at b row) (children (tree_at b row)) ≡ s.ns = s.numbers ∙ ap (λ x. s.ns ++ violated_of (counts_on value) (first_at b child) x) (firsts-zero left (forest_at b child) h) ∙ no_numbers value (first_at b child) s.ns in
       let bytes : number_bytes s.ns ≡ number_bytes (violated (counts_on value) (first_at b row) (tree_at b row)) = ap number_bytes (sym ns ∙ node_violated value (first_at b row) (tree_at b row) no) in
       record {
-        is = t ∙ ap (λ (x : ℕ). rule_of x tally) g ∙ ap (rule_of (node_kind (tree_at b row))) (s.tallied ∙ ap tally_of (sym vs)) ∙ node-truth value (first_at b row) (tree_at b row) no;
+        is = t ∙ ap (λ (x : ℕ). rule_of x tally) g ∙ ap (rule_of (node_kind (tree_at b row))) (s.met ∙ ap (tallied no_tally) (sym vs)) ∙ node-truth value (first_at b row) (tree_at b row) no;
         written = subst (λ (x : ℕ). Appended (number_bytes (violated (counts_on value) (first_at b row) (tree_at b row))) at base list x) (sym q) (same bytes s.written);
       }
 
@@ -304,35 +310,35 @@ module _ (value b : List ℕ) (tree : is_tree b ≡ true) where
 
 module _ (b value : List ℕ) where
   -- 15
-  pub truth-no-tree : is_tree b ≡ false → refuse NotATree ≡ truth_answer b value
+  pub truth-no-tree : is_tree b ≡ false → Err NotATree ≡ truth_answer b value
   unfolding truth_answer then
   truth-no-tree h = rw (no-tree b h)
 
-  pub violations-no-tree : (old : List ℕ) → is_tree b ≡ false → record { result_value : refuse NotATree ≡ answer_of (violations_answer b value) (length old); out_after : old ≡ written_of (violations_answer b value) old }
+  pub violations-no-tree : (old : List ℕ) → is_tree b ≡ false → record { result_value : Err NotATree ≡ answer_of (violations_answer b value) (length old); out_after : old ≡ written_of (violations_answer b value) old }
   unfolding violations_answer answer_of written_of then
   violations-no-tree old h = record { result_value = rw (no-tree b h); out_after = rw (no-tree b h) }
 
   module _ (tree : is_tree b ≡ true) where
     -- 10 and 11
-    pub truth_turned : (k : ℕ) → ((r : Result Truth) → admitted value_limit value r ≡ refused k) → refused k ≡ truth_answer b value
+    pub truth_turned : (k : Refusal) → ((r : Result Truth Refusal) → admitted value_limit value r ≡ Err k) → Err k ≡ truth_answer b value
     unfolding truth_answer then
-    truth_turned k a = rw (root b tree).is (sym (a (ok (truth value (tree_at b 0)))))
+    truth_turned k a = rw (root b tree).is (sym (a (Ok (truth value (tree_at b 0)))))
 
     -- the truth
-    pub truth_done : (v : Truth) → ((r : Result Truth) → admitted value_limit value r ≡ r) → v ≡ truth value (tree_at b 0) → ok v ≡ truth_answer b value
+    pub truth_done : (v : Truth) → ((r : Result Truth Refusal) → admitted value_limit value r ≡ r) → v ≡ truth value (tree_at b 0) → Ok v ≡ truth_answer b value
     unfolding truth_answer then
-    truth_done v a e = rw (root b tree).is (ap ok e ∙ sym (a (ok (truth value (tree_at b 0)))))
+    truth_done v a e = rw (root b tree).is (ap Ok e ∙ sym (a (Ok (truth value (tree_at b 0)))))
 
-    turned_is : (k : ℕ) → ((r : Outcome ℕ) → admitted value_limit value r ≡ refused k) → violations_answer b value ≡ refused k
+    turned_is : (k : Refusal) → ((r : Outcome ℕ) → admitted value_limit value r ≡ Err k) → violations_answer b value ≡ Err k
     unfolding violations_answer then
-    turned_is k a = rw (root b tree).is (a (ok (numbered (violations value (tree_at b 0)))))
+    turned_is k a = rw (root b tree).is (a (Ok (numbered (violations value (tree_at b 0)))))
 
-    answer_is : ((r : Outcome ℕ) → admitted value_limit value r ≡ r) → violations_answer b value ≡ ok (numbered (violations value (tree_at b 0)))
+    answer_is : ((r : Outcome ℕ) → admitted value_limit value r ≡ r) → violations_answer b value ≡ Ok (numbered (violations value (tree_at b 0)))
     unfolding violations_answer then
-    answer_is a = rw (root b tree).is (a (ok (numbered (violations value (tree_at b 0)))))
+    answer_is a = rw (root b tree).is (a (Ok (numbered (violations value (tree_at b 0)))))
 
     -- 10 and 11
-    pub violations_turned : (old : List ℕ) (k : ℕ) → ((r : Outcome ℕ) → admitted value_limit value r ≡ refused k) → record { result_value : refused k ≡ answer_of (violations_answer b value) (length old); out_after : old ≡ written_of (violations_answer b value) old }
+    pub violations_turned : (old : List ℕ) (k : Refusal) → ((r : Outcome ℕ) → admitted value_limit value r ≡ Err k) → record { result_value : Err k ≡ answer_of (violations_answer b value) (length old); out_after : old ≡ written_of (violations_answer b value) old }
     unfolding answer_of written_of then
     violations_turned old k a = record { result_value = rw (turned_is k a); out_after = rw (turned_is k a) }
 
@@ -350,10 +356,10 @@ module _ (b value : List ℕ) where
       bytes_are t = ap number_bytes (violations_are t)
 
       -- nothing, unless the whole is False
-      pub violations-not : is_false r.truth ≡ false → record { result_value : ok 0 ≡ answer_of (violations_answer b value) (length old); out_after : old ≡ written_of (violations_answer b value) old }
+      pub violations-not : is_false r.truth ≡ false → record { result_value : Ok 0 ≡ answer_of (violations_answer b value) (length old); out_after : old ≡ written_of (violations_answer b value) old }
       unfolding number_bytes
       violations-not t =
-          let is = answer_is a ∙ ap (λ x. ok (numbered x)) (violations_none t) in
+          let is = answer_is a ∙ ap (λ x. Ok (numbered x)) (violations_none t) in
           let w = numbered [] in
           record {
             result_value = sym (ap (λ x. answer_of x (length old)) is ∙ answer_fits w (length old) (omega arith));
@@ -361,7 +367,7 @@ module _ (b value : List ℕ) where
           }
 
       -- 14
-      pub violations_short : is_false r.truth ≡ true → length old < r.at → record { result_value : refuse NoRoom ≡ answer_of (violations_answer b value) (length old); out_after : old ≡ written_of (violations_answer b value) old }
+      pub violations_short : is_false r.truth ≡ true → length old < r.at → record { result_value : Err NoRoom ≡ answer_of (violations_answer b value) (length old); out_after : old ≡ written_of (violations_answer b value) old }
       violations_short t l =
           let w = numbered (violations value (tree_at b 0)) in
           let short : length old < length (number_bytes (violations value (tree_at b 0))) = omega (arith, l, j.written.ends, ap length (bytes_are t)) in
@@ -372,7 +378,7 @@ module _ (b value : List ℕ) where
 
       -- their count, and their numbers
       pub violations_done : {new : List ℕ} {q : ℕ} → is_false r.truth ≡ true → r.at ≤ length old → Appended (take r.at list) 0 old new q
-          → record { result_value : ok (r.at / 2) ≡ answer_of (violations_answer b value) (length old); out_after : new ≡ written_of (violations_answer b value) old }
+          → record { result_value : Ok (r.at / 2) ≡ answer_of (violations_answer b value) (length old); out_after : new ≡ written_of (violations_answer b value) old }
       violations_done {new} {q} t l p =
           let ns = violations value (tree_at b 0) in
           let w = numbered ns in
@@ -380,49 +386,39 @@ module _ (b value : List ℕ) where
           let half : r.at / 2 ≡ length ns = omega (arith, j.written.ends, ap length (bytes_are t), numbers_length ns) in
           let bytes : take r.at list ≡ number_bytes ns = j.written.has ∙ sym (bytes_are t) in
           record {
-            result_value = ap ok half ∙ sym (ap (λ x. answer_of x (length old)) (answer_is a) ∙ answer_fits w (length old) fits);
+            result_value = ap Ok half ∙ sym (ap (λ x. answer_of x (length old)) (answer_is a) ∙ answer_fits w (length old) fits);
             out_after = whole (same bytes p) ∙ sym (ap (λ x. written_of x old) (answer_is a) ∙ written_fits w old fits);
           }
 
 module _ (b answers value : List ℕ) where
   -- 15
-  pub both-no-tree : is_tree b ≡ false → refuse NotATree ≡ eval_and_truth_answer b answers value
+  pub both-no-tree : is_tree b ≡ false → Err NotATree ≡ eval_and_truth_answer b answers value
   unfolding eval_and_truth_answer then
   both-no-tree h = rw (no-tree b h)
 
   module _ (tree : is_tree b ≡ true) where
     -- 16
-    pub both_unfit : answers_fit (tree_at b 0) answers ≡ false → refuse WrongAnswers ≡ eval_and_truth_answer b answers value
+    pub both_unfit : answers_fit (tree_at b 0) answers ≡ false → Err WrongAnswers ≡ eval_and_truth_answer b answers value
     unfolding eval_and_truth_answer then
     both_unfit k = rw ((root b tree).is, k)
 
     module _ (fit : answers_fit (tree_at b 0) answers ≡ true) where
       -- the value's 10 and 11
-      pub both_turned : (k : ℕ) → ((r : Result (Truth × Truth)) → admitted value_limit value r ≡ refused k) → refused k ≡ eval_and_truth_answer b answers value
+      pub both_turned : (k : Refusal) → ((r : Result (Truth × Truth) Refusal) → admitted value_limit value r ≡ Err k) → Err k ≡ eval_and_truth_answer b answers value
       unfolding eval_and_truth_answer then
       both_turned k a = rw ((root b tree).is, fit) (sym (a _))
 
-      module _ (a : (r : Result (Truth × Truth)) → admitted value_limit value r ≡ r) (o : EvalAnswer) (e : eval_said o ≡ presence_by answers (tree_at b 0)) where
-        both_is : (x : Result Truth) → eval_said o ≡ x → map_ok (λ p. (p, truth value (tree_at b 0))) x ≡ eval_and_truth_answer b answers value
+      module _ (a : (r : Result (Truth × Truth) Refusal) → admitted value_limit value r ≡ r) (o : Result Truth Refusal) (e : o ≡ presence_by answers (tree_at b 0)) where
+        both_is : (x : Result Truth Refusal) → o ≡ x → map_ok (λ p. (p, truth value (tree_at b 0))) x ≡ eval_and_truth_answer b answers value
         unfolding eval_and_truth_answer then
         both_is x h = rw ((root b tree).is, fit) (ap (map_ok (λ p. (p, truth value (tree_at b 0)))) (sym h ∙ e) ∙ sym (a _))
 
         -- 7 and 8
-        pub both_refused : (why : Refusal) → o ≡ eval.Refused why → refuse why ≡ eval_and_truth_answer b answers value
+        pub both_refused : (why : Refusal) → o ≡ Err why → Err why ≡ eval_and_truth_answer b answers value
         unfolding map_ok
-        both_refused why h = both_is (refuse why) (ap eval_said h)
+        both_refused why h = both_is (Err why) h
 
         -- both
-        pub both_done : (p f : Truth) → o ≡ eval.Value p → f ≡ truth value (tree_at b 0) → ok (p, f) ≡ eval_and_truth_answer b answers value
+        pub both_done : (p f : Truth) → o ≡ Ok p → f ≡ truth value (tree_at b 0) → Ok (p, f) ≡ eval_and_truth_answer b answers value
         unfolding map_ok
-        both_done p f h g = ap (λ x. ok (p, x)) g ∙ both_is (ok p) (ap eval_said h)
-
--- a node of kind 1 or 2
-pub rule_every : (k : ℕ) (t : Tally) (v : Truth) → v ≡ every_of t → k < 3 → v ≡ rule_of k t
-unfolding rule_of
-rule_every k t v e l = rw (lt-ltb k 3 l) e
-
--- of kind 3 or 4
-pub rule_some : (k : ℕ) (t : Tally) (v : Truth) → v ≡ some_of t → 3 ≤ k → v ≡ rule_of k t
-unfolding rule_of
-rule_some k t v e l = rw (le-ltb k 3 l) e
+        both_done p f h g = ap (λ x. Ok (p, x)) g ∙ both_is (Ok p) h

@@ -1,3 +1,2 @@
 pub mod Tallies
 pub mod Judged
-pub mod Said

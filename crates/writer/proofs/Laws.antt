@@ -1,36 +1,24 @@
 -- What is written is the tree of an expression, if the rows and texts are its own. Assumes nothing.
-use mathlib.Core.Path.{◌≡◌, ◌∙◌}
+use mathlib.Core.Path.{◌≡◌}
 use mathlib.Core.List.{List, ◌++◌}
-use Prim.Native.Nat.{ℕ, ◌+◌, ◌*◌, ◌/◌, ◌%◌, ◌≤◌, ◌<◌}
-use native.Mathlib.Omega.{arith}
-use lib.ListN.{length, take}
-use lib.Seq.{length-take-le}
+use Prim.Native.Nat.{ℕ}
+use lib.ListN.{length}
 use Rattle.grammar.specs.Expr.{Expr, concat, citations}
-use Rattle.grammar.specs.Rows.{row, rows}
+use Rattle.grammar.specs.Rows.{rows}
 use Rattle.grammar.specs.Bytes.{head_bytes, row_bytes, cite_bytes, packed, bytes_of}
 use Rattle.lexer.specs.Tokens.{cuts}
-use Rattle.writer.specs.Unpacked.{row_of, unpacked}
+use Rattle.lexer.specs.declared.Place.{Place}
+use Rattle.parser.specs.declared.Row.{Row}
+use Rattle.writer.specs.Unpacked.{unpacked}
 use Rattle.writer.proofs.Rows.{rows_count, cuts-count}
 
 -- header, node rows, citation rows and texts are a tree
-pub all-packed : (rs : List ℕ) (n : ℕ) (s ps : List ℕ) (c t : ℕ) → n ≤ length rs → c ≤ length ps → t ≡ length (concat (cuts s (take c ps)))
-    → head_bytes n c t ++ (row_bytes (unpacked (take n rs)) ++ (cite_bytes 0 (cuts s (take c ps)) ++ concat (cuts s (take c ps)))) ≡ packed (unpacked (take n rs)) (cuts s (take c ps))
+pub all-packed : (rs : List Row) (s : List ℕ) (ps : List Place) (t : ℕ) → t ≡ length (concat (cuts s ps))
+    → head_bytes (length rs) (length ps) t ++ (row_bytes (unpacked rs) ++ (cite_bytes 0 (cuts s ps) ++ concat (cuts s ps))) ≡ packed (unpacked rs) (cuts s ps)
 unfolding packed
-all-packed rs n s ps c t ln lc e =
-    let a : length (unpacked (take n rs)) ≡ n = rows_count (take n rs) ∙ length-take-le n rs ln in
-    let b : length (cuts s (take c ps)) ≡ c = cuts-count s (take c ps) ∙ length-take-le c ps lc in
-    rw (a, b, e)
+all-packed rs s ps t e = rw (rows_count rs, cuts-count s ps, e)
 
 -- the tree of an expression whose rows and texts these are
-pub packed-bytes : (e : Expr) (rs s ps : List ℕ) → unpacked rs ≡ rows 0 e → cuts s ps ≡ citations e → packed (unpacked rs) (cuts s ps) ≡ bytes_of e
+pub packed-bytes : (e : Expr) (rs : List Row) (s : List ℕ) (ps : List Place) → unpacked rs ≡ rows 0 e → cuts s ps ≡ citations e → packed (unpacked rs) (cuts s ps) ≡ bytes_of e
 unfolding bytes_of
 packed-bytes e rs s ps h k = rw (h, k)
-
--- a row, packed and unpacked
-pub row_back : (k m z : ℕ) → k < 65536 → m < 65536 → z < 65536 → row_of (k * 4294967296 + m * 65536 + z) ≡ row k m z
-unfolding row_of
-row_back k m z hk hm hz =
-    let a : (k * 4294967296 + m * 65536 + z) / 4294967296 % 65536 ≡ k = omega arith in
-    let b : (k * 4294967296 + m * 65536 + z) / 65536 % 65536 ≡ m = omega arith in
-    let c : (k * 4294967296 + m * 65536 + z) % 65536 ≡ z = omega arith in
-    rw (a, b, c)

@@ -1,74 +1,78 @@
 -- One row more, one text more. Assumes nothing.
 use mathlib.Core.Path.{◌≡◌, refl, sym, ap, ◌∙◌}
 use mathlib.Core.List.{List, [], ◌∷◌, ◌++◌, append_assoc, append-nil}
-use Prim.Native.Nat.{ℕ, zero, suc, ◌+◌, ◌*◌, ◌/◌, ◌%◌, ◌≤◌, ◌<◌}
+use Prim.Native.Nat.{ℕ, zero, suc, ◌+◌, ◌*◌, ◌≤◌, ◌<◌}
 use native.Mathlib.Numerals.{add-one}
 use native.Mathlib.Nat.{add-zero}
 use native.Mathlib.Omega.{arith}
 use lib.ListN.{length, get_or, take, length-append}
-use lib.Seq.{take-suc, length-take-le, take-take}
+use lib.Seq.{take-suc}
 use Rattle.grammar.specs.Expr.{concat}
-use Rattle.grammar.specs.Rows.{Row, row}
+use Rattle.grammar.specs.Rows as grammar
+use Rattle.grammar.specs.Rows.{row}
+use Rattle.parser.specs.Packed.{pack}
+use Rattle.parser.specs.declared.Row.{Row}
 use Rattle.fields.specs.Appended.{Appended}
 use Rattle.grammar.specs.Bytes.{two_bytes, head_bytes, row_bytes, cite_bytes}
-use Rattle.lexer.specs.Tokens.{cut, cuts}
+use Rattle.lexer.specs.Tokens.{placed, cut, cuts}
+use Rattle.lexer.specs.declared.Place.{Place}
 use Rattle.writer.specs.Unpacked.{row_of, unpacked}
 
-rows_append : (a b : List Row) → row_bytes (a ++ b) ≡ row_bytes a ++ row_bytes b
+rows_append : (a b : List grammar.Row) → row_bytes (a ++ b) ≡ row_bytes a ++ row_bytes b
 unfolding row_bytes
 rows_append [] b = refl
 rows_append (row k m z ∷ a) b = rw (rows_append a b) (simp append_assoc)
 
-unpacked_append : (a b : List ℕ) → unpacked (a ++ b) ≡ unpacked a ++ unpacked b
+unpacked_append : (a b : List Row) → unpacked (a ++ b) ≡ unpacked a ++ unpacked b
 unfolding unpacked
 unpacked_append [] b = refl
 unpacked_append (v ∷ a) b = ap (λ x. row_of v ∷ x) (unpacked_append a b)
 
-one_row : (v : ℕ) → unpacked (v ∷ []) ≡ row_of v ∷ []
+one_row : (v : Row) → unpacked (v ∷ []) ≡ row_of v ∷ []
 unfolding unpacked
 one_row v = refl
 
 -- the bytes of the first rows, and of one more
-pub rows_next : (vs : List ℕ) (i : ℕ) → i < length vs → row_bytes (unpacked (take i vs)) ++ row_bytes (row_of (get_or vs i 0) ∷ []) ≡ row_bytes (unpacked (take (i + 1) vs))
+pub rows_next : (vs : List Row) (i : ℕ) → i < length vs → row_bytes (unpacked (take i vs)) ++ row_bytes (row_of (get_or vs i (pack 0 0 0)) ∷ []) ≡ row_bytes (unpacked (take (i + 1) vs))
 rows_next vs i h =
-    rw (add-one i, take-suc vs i 0 h)
-    (sym (ap row_bytes (unpacked_append (take i vs) (get_or vs i 0 ∷ [])) ∙ rows_append (unpacked (take i vs)) (unpacked (get_or vs i 0 ∷ [])) ∙ ap (λ x. row_bytes (unpacked (take i vs)) ++ row_bytes x) (one_row (get_or vs i 0))))
+    rw (add-one i, take-suc vs i (pack 0 0 0) h)
+    (sym (ap row_bytes (unpacked_append (take i vs) (get_or vs i (pack 0 0 0) ∷ [])) ∙ rows_append (unpacked (take i vs)) (unpacked (get_or vs i (pack 0 0 0) ∷ [])) ∙ ap (λ x. row_bytes (unpacked (take i vs)) ++ row_bytes x) (one_row (get_or vs i (pack 0 0 0)))))
 
 -- the bytes of no rows
-pub rows_none : (vs : List ℕ) → row_bytes (unpacked (take 0 vs)) ≡ []
+pub rows_none : (vs : List Row) → row_bytes (unpacked (take 0 vs)) ≡ []
 unfolding row_bytes unpacked
 rows_none vs = refl
 
 -- the bytes of one row
-pub row-bytes : (v : ℕ) → row_bytes (row_of v ∷ []) ≡ two_bytes (v / 4294967296 % 65536) ++ (two_bytes (v / 65536 % 65536) ++ two_bytes (v % 65536))
+pub row-bytes : (v : Row) → row_bytes (row_of v ∷ []) ≡ two_bytes v.kind ++ (two_bytes v.number ++ two_bytes v.size)
 unfolding row_bytes row_of
-row-bytes v = rw (append-nil (two_bytes (v % 65536)))
+row-bytes v = rw (append-nil (two_bytes v.size))
 
 -- six bytes a row
-pub rows_size : (vs : List ℕ) → length (row_bytes (unpacked vs)) ≡ 6 * length vs
+pub rows_size : (vs : List Row) → length (row_bytes (unpacked vs)) ≡ 6 * length vs
 unfolding row_bytes unpacked row_of two_bytes
 rows_size [] = refl
 rows_size (v ∷ vs) = omega (arith, rows_size vs)
 
--- as many rows as numbers
-pub rows_count : (vs : List ℕ) → length (unpacked vs) ≡ length vs
+-- as many rows
+pub rows_count : (vs : List Row) → length (unpacked vs) ≡ length vs
 unfolding unpacked
 rows_count [] = refl
 rows_count (v ∷ vs) = ap suc (rows_count vs)
 
-cuts_append : (s a b : List ℕ) → cuts s (a ++ b) ≡ cuts s a ++ cuts s b
+cuts_append : (s : List ℕ) (a b : List Place) → cuts s (a ++ b) ≡ cuts s a ++ cuts s b
 unfolding cuts
 cuts_append s [] b = refl
 cuts_append s (v ∷ a) b = ap (λ x. cut s v ∷ x) (cuts_append s a b)
 
-one_cut : (s : List ℕ) (v : ℕ) → cuts s (v ∷ []) ≡ cut s v ∷ []
+one_cut : (s : List ℕ) (v : Place) → cuts s (v ∷ []) ≡ cut s v ∷ []
 unfolding cuts
 one_cut s v = refl
 
 -- the texts at the first places, and one more
-pub cuts-next : (s vs : List ℕ) (i : ℕ) → i < length vs → cuts s (take (i + 1) vs) ≡ cuts s (take i vs) ++ (cut s (get_or vs i 0) ∷ [])
+pub cuts-next : (s : List ℕ) (vs : List Place) (i : ℕ) → i < length vs → cuts s (take (i + 1) vs) ≡ cuts s (take i vs) ++ (cut s (get_or vs i (placed 0 0)) ∷ [])
 cuts-next s vs i h =
-    rw (add-one i, take-suc vs i 0 h) (cuts_append s (take i vs) (get_or vs i 0 ∷ []) ∙ ap (λ x. cuts s (take i vs) ++ x) (one_cut s (get_or vs i 0)))
+    rw (add-one i, take-suc vs i (placed 0 0) h) (cuts_append s (take i vs) (get_or vs i (placed 0 0) ∷ []) ∙ ap (λ x. cuts s (take i vs) ++ x) (one_cut s (get_or vs i (placed 0 0))))
 
 concat_append : (a b : List (List ℕ)) → concat (a ++ b) ≡ concat a ++ concat b
 unfolding concat
@@ -80,18 +84,18 @@ unfolding concat
 one_text t = append-nil t
 
 -- the bytes of the first texts, and of one more
-pub texts-next : (s vs : List ℕ) (i : ℕ) → i < length vs → concat (cuts s (take i vs)) ++ cut s (get_or vs i 0) ≡ concat (cuts s (take (i + 1) vs))
+pub texts-next : (s : List ℕ) (vs : List Place) (i : ℕ) → i < length vs → concat (cuts s (take i vs)) ++ cut s (get_or vs i (placed 0 0)) ≡ concat (cuts s (take (i + 1) vs))
 texts-next s vs i h =
-    let t = cut s (get_or vs i 0) in
+    let t = cut s (get_or vs i (placed 0 0)) in
     sym (ap concat (cuts-next s vs i h) ∙ concat_append (cuts s (take i vs)) (t ∷ []) ∙ ap (λ x. concat (cuts s (take i vs)) ++ x) (one_text t))
 
 -- the bytes of no texts
-pub texts_none : (s vs : List ℕ) → concat (cuts s (take 0 vs)) ≡ []
+pub texts_none : (s : List ℕ) (vs : List Place) → concat (cuts s (take 0 vs)) ≡ []
 unfolding concat cuts
 texts_none s vs = refl
 
 -- the citation rows of no texts
-pub cites_none : (s vs : List ℕ) → cite_bytes 0 (cuts s (take 0 vs)) ≡ []
+pub cites_none : (s : List ℕ) (vs : List Place) → cite_bytes 0 (cuts s (take 0 vs)) ≡ []
 unfolding cite_bytes cuts
 cites_none s vs = refl
 
@@ -103,11 +107,11 @@ cites_more o (u ∷ ts) t =
     rw (cites_more (o + length u) ts t, sum) (simp append_assoc)
 
 -- the citation rows of the first texts, and of one more
-pub cites-next : (s vs : List ℕ) (i o n : ℕ) → i < length vs → o ≡ length (concat (cuts s (take i vs))) → n ≡ length (cut s (get_or vs i 0))
+pub cites-next : (s : List ℕ) (vs : List Place) (i o n : ℕ) → i < length vs → o ≡ length (concat (cuts s (take i vs))) → n ≡ length (cut s (get_or vs i (placed 0 0)))
     → cite_bytes 0 (cuts s (take i vs)) ++ (two_bytes o ++ two_bytes n) ≡ cite_bytes 0 (cuts s (take (i + 1) vs))
 cites-next s vs i o n h e f =
     let ts = cuts s (take i vs) in
-    let t = cut s (get_or vs i 0) in
+    let t = cut s (get_or vs i (placed 0 0)) in
     let g : o ≡ 0 + length (concat ts) = omega arith in
     rw (g, f) (sym (ap (cite_bytes 0) (cuts-next s vs i h) ∙ cites_more 0 ts t))
 
@@ -118,27 +122,24 @@ cites_size o [] = refl
 cites_size o (t ∷ ts) = omega (arith, cites_size (o + length t) ts)
 
 -- as many texts as places
-pub cuts-count : (s vs : List ℕ) → length (cuts s vs) ≡ length vs
+pub cuts-count : (s : List ℕ) (vs : List Place) → length (cuts s vs) ≡ length vs
 unfolding cuts
 cuts-count s [] = refl
 cuts-count s (v ∷ vs) = ap suc (cuts-count s vs)
 
-size_all : (s vs : List ℕ) (i : ℕ) → length (concat (cuts s (take i vs))) ≤ length (concat (cuts s vs))
+-- the first texts are no longer than all
+pub size_all : (s : List ℕ) (vs : List Place) (i : ℕ) → length (concat (cuts s (take i vs))) ≤ length (concat (cuts s vs))
 unfolding concat cuts
 size_all s vs zero = omega arith
 size_all s [] (suc i) = omega arith
 size_all s (v ∷ vs) (suc i) =
     omega (arith, size_all s vs i, length-append (cut s v) (concat (cuts s vs)), length-append (cut s v) (concat (cuts s (take i vs))))
 
--- the first texts are no longer than all
-pub size_first : (s vs : List ℕ) (i c : ℕ) → i ≤ c → length (concat (cuts s (take i vs))) ≤ length (concat (cuts s (take c vs)))
-size_first s vs i c h = rw (take-take i c vs h) at (size_all s (take c vs) i)
-
 -- the lengths of the first texts, and of one more
-pub size_next : (s vs : List ℕ) (i : ℕ) → i < length vs → length (concat (cuts s (take (i + 1) vs))) ≡ length (concat (cuts s (take i vs))) + length (cut s (get_or vs i 0))
-size_next s vs i h = ap length (sym (texts-next s vs i h)) ∙ length-append (concat (cuts s (take i vs))) (cut s (get_or vs i 0))
+pub size_next : (s : List ℕ) (vs : List Place) (i : ℕ) → i < length vs → length (concat (cuts s (take (i + 1) vs))) ≡ length (concat (cuts s (take i vs))) + length (cut s (get_or vs i (placed 0 0)))
+size_next s vs i h = ap length (sym (texts-next s vs i h)) ∙ length-append (concat (cuts s (take i vs))) (cut s (get_or vs i (placed 0 0)))
 
-row_size_lem : (v : ℕ) → length (row_bytes (row_of v ∷ [])) ≡ 6
+row_size_lem : (v : Row) → length (row_bytes (row_of v ∷ [])) ≡ 6
 unfolding row_bytes row_of two_bytes
 row_size_lem v = refl
 
@@ -147,7 +148,7 @@ unfolding head_bytes two_bytes
 head_size_lem n c t = refl
 
 -- a row ends six bytes on
-pub ends-row : (v : ℕ) {at q : ℕ} {old new : List ℕ} → Appended (row_bytes (row_of v ∷ [])) at old new q → q ≡ at + 6
+pub ends-row : (v : Row) {at q : ℕ} {old new : List ℕ} → Appended (row_bytes (row_of v ∷ [])) at old new q → q ≡ at + 6
 ends-row v {at} h = h.ends ∙ ap (λ (x : ℕ). at + x) (row_size_lem v)
 
 -- the header ends at byte 12
@@ -160,10 +161,6 @@ pub head_bytes_lem : (n c t : ℕ)
 unfolding head_bytes
 head_bytes_lem n c t = refl
 
--- the length of the first rows' bytes
-pub rows_long : (rs : List ℕ) (n : ℕ) → n ≤ length rs → length (row_bytes (unpacked (take n rs))) ≡ 6 * n
-rows_long rs n h = rows_size (take n rs) ∙ ap (λ (x : ℕ). 6 * x) (length-take-le n rs h)
-
--- the length of the first citation rows
-pub cites_long : (s ps : List ℕ) (c : ℕ) → c ≤ length ps → length (cite_bytes 0 (cuts s (take c ps))) ≡ 4 * c
-cites_long s ps c h = cites_size 0 (cuts s (take c ps)) ∙ ap (λ (x : ℕ). 4 * x) (cuts-count s (take c ps) ∙ length-take-le c ps h)
+-- four bytes a place
+pub cites_long : (s : List ℕ) (ps : List Place) → length (cite_bytes 0 (cuts s ps)) ≡ 4 * length ps
+cites_long s ps = cites_size 0 (cuts s ps) ∙ ap (λ (x : ℕ). 4 * x) (cuts-count s ps)

@@ -1,12 +1,14 @@
--- Rows as the parser hands them over, packed into one number each. Assumes nothing.
-use Rattle.std.specs.Prelude.{List, [], ◌∷◌, ℕ, ◌/◌, ◌%◌}
-use Rattle.grammar.specs.Rows.{Row, row}
+-- Rows as the parser hands them over, and as a tree has them. Assumes nothing.
+use Rattle.std.specs.Prelude.{List, [], ◌∷◌}
+use Rattle.grammar.specs.Rows as grammar
+use Rattle.grammar.specs.Rows.{row}
+use Rattle.parser.specs.declared.Row.{Row}
 
--- the row that is packed into a number: kind, number and size, 16 bits each from the 32nd, the 16th and the first on
-unfoldable pub row_of : ℕ → Row
-row_of v = row (v / 4294967296 % 65536) (v / 65536 % 65536) (v % 65536)
+-- a tree's row: kind, number and size
+unfoldable pub row_of : Row → grammar.Row
+row_of r = row r.kind r.number r.size
 
--- the rows that are packed into numbers
-unfoldable pub unpacked : List ℕ → List Row
+-- a tree's rows
+unfoldable pub unpacked : List Row → List grammar.Row
 unpacked [] = []
-unpacked (v ∷ vs) = row_of v ∷ unpacked vs
+unpacked (r ∷ rs) = row_of r ∷ unpacked rs

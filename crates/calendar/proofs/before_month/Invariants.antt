@@ -1,10 +1,7 @@
-use Prim.Native.Nat.{◌-◌, ◌%◌, ◌≤◌}
+use Prim.Native.Nat.{◌%◌}
 use mathlib.Core.Path.{◌≡◌}
 use Rattle.calendar.specs.Calendar.{before_month}
 use Rattle.calendar.proofs.before_month.Given as goal
 
 abbrev pub invariant-loop-k : goal.invariant-loop-k
-invariant-loop-k l = (l.n ≡ before_month l.year l.k % 7) × (l.k ≤ l.month)
-
-abbrev pub decreases-loop-k : goal.decreases-loop-k
-decreases-loop-k l = l.month - l.k
+invariant-loop-k l = l.n ≡ before_month l.year l.k % 7

@@ -1,12 +1,11 @@
-use native.Mathlib.Omega.{arith}
 use borrow.Author.Tests.{le-leb, lt-leb}
 use Rattle.calendar.specs.Calendar.{is_time}
 use Rattle.calendar.proofs.is_time.Goals as goal
 
-pub returns-then-hour-gt23 : goal.returns-then-hour-gt23
+pub returns-then-hour-le23 : goal.returns-then-hour-le23
 unfolding is_time
-returns-then-hour-gt23 c = rw (lt-leb c.args.hour 23 (omega arith))
+returns-then-hour-le23 c = rw (le-leb c.args.hour 23 c.if-hour-le23.true)
 
-pub returns : goal.returns
+pub returns-else-hour-le23 : goal.returns-else-hour-le23
 unfolding is_time
-returns c = rw (le-leb c.args.hour 23 (omega arith))
+returns-else-hour-le23 c = rw (lt-leb c.args.hour 23 c.if-hour-le23.false)

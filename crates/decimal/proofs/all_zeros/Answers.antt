@@ -1,27 +1,12 @@
 use borrow.Author.Rules.{rules}
-use native.Mathlib.Omega.{arith}
-use mathlib.Core.Path.{refl, ◌∙◌}
-use lib.ListN.{get_or}
-use borrow.Author.Tests.{eq-eqb, ne_eqb}
+use borrow.Author.Tests.{tests}
+use mathlib.Core.Path.{◌∙◌}
+use Rattle.std.proofs.lemmas.Iterator.{YieldsList-from_slice}
+use Rattle.std.proofs.lemmas.Iterator.Search.{all_from_yields_List}
+use Rattle.text.proofs.Laws.{all_is_all}
 use Rattle.decimal.specs.Decimal.{is_zero}
-use Rattle.text.proofs.Laws.{all_pass, all_fail, all_end}
 use Rattle.decimal.proofs.all_zeros.Goals as goal
 
-pub loop-i-init : goal.loop-i-init
-loop-i-init c = (refl, search rules)
-
-pub returns-then-s-i-ne48 : goal.returns-then-s-i-ne48
-returns-then-s-i-ne48 c = let s = c.args.s.now in
-    let l = c.loop-i in
-    all_fail is_zero s l.i (omega arith) (ne_eqb (get_or s l.i 0) 48 c.if-s-i-ne48.true) ∙ l.invariant.0
-
-pub loop-i-smaller : goal.loop-i-smaller
-loop-i-smaller c = omega arith
-
-pub loop-i-preserved : goal.loop-i-preserved
-loop-i-preserved c = let s = c.args.s.now in
-    let l = c.loop-i in
-    (all_pass is_zero s l.i (omega arith) (eq-eqb (get_or s l.i 0) 48 c.if-s-i-ne48.false) ∙ l.invariant.0, omega arith)
-
 pub returns : goal.returns
-returns c = all_end is_zero c.args.s.now c.loop-i.i (omega arith) ∙ c.loop-i.invariant.0
+returns c = let s = c.args.s.now in
+    all_from_yields_List is_zero _ _ c.all.result c.all.ensures.ran (YieldsList-from_slice s cc) (λ x b q k. search (rules, tests)) ∙ all_is_all is_zero s

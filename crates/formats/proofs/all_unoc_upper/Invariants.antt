@@ -4,8 +4,8 @@ use lib.ListN.{length, drop}
 use Rattle.formats.specs.Rules.{unoc_upper, passes}
 use Rattle.formats.proofs.all_unoc_upper.Given as goal
 
-abbrev pub invariant-loop-at : goal.invariant-loop-at
-invariant-loop-at l = (passes unoc_upper (drop l.at l.value) ≡ passes unoc_upper l.value) × (l.at ≤ length l.value)
+abbrev pub invariant-loop-code : goal.invariant-loop-code
+invariant-loop-code l = (passes unoc_upper (drop l.at l.value) ≡ passes unoc_upper l.value) × (l.at ≤ length l.value)
 
-abbrev pub decreases-loop-at : goal.decreases-loop-at
-decreases-loop-at l = length l.value - l.at
+abbrev pub decreases-loop-code : goal.decreases-loop-code
+decreases-loop-code l = length l.value - l.at

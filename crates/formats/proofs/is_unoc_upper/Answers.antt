@@ -1,5 +1,5 @@
 use borrow.Author.Rules.{rules}
-use borrow.Author.Tests.{lt-leb}
+use borrow.Author.Tests.{lt-leb, le-ltb}
 use native.Mathlib.Omega.{arith}
 use mathlib.Core.Bool.{and-false}
 use lib.Dec.{leb}
@@ -11,7 +11,7 @@ pub returns-then-code-lt256 : goal.returns-then-code-lt256
 unfolding marks
 returns-then-code-lt256 c = unoc_upper_at c.args.code (search rules)
 
-pub returns : goal.returns
+pub returns-else-code-lt256 : goal.returns-else-code-lt256
 unfolding is_unoc_upper
-returns c = let n = c.args.code in
-    rw (lt-leb n 0x7E (omega arith), lt-leb n 0xFF (omega arith), and-false (leb 0x20 n), and-false (leb 0xA0 n))
+returns-else-code-lt256 c = let n = c.args.code in
+    rw (le-ltb n 256 c.if-code-lt256.false, lt-leb n 0x7E (omega arith), lt-leb n 0xFF (omega arith), and-false (leb 0x20 n), and-false (leb 0xA0 n))

@@ -1,38 +1,46 @@
-use mathlib.Core.Path.{sym, ◌∙◌}
-use borrow.Author.Tests.{eq-eqb, ne_eqb}
+use Prim.Native.Nat.{ℕ}
+use mathlib.Core.Path.{◌≡◌, sym, ◌∙◌}
+use mathlib.Core.Bool.{Bool, true, false, cond}
+use native.Mathlib.Omega.{arith}
+use Rattle.utf8.specs.White.{is_white}
+use borrow.Author.Tests.{ne_eqb}
 use Rattle.grammar.specs.Lex.{part, symbol}
 use Rattle.grammar.specs.Rows.{op_kind}
 use Rattle.lexer.specs.Tokens.{part_number}
 use Rattle.lexer.proofs.part_of.Goals as goal
 
-pub returns-then-c-eq91 : goal.returns-then-c-eq91
+pub returns-in-91 : goal.returns-in-91
 unfolding part_number op_kind part symbol
-returns-then-c-eq91 c = simp (eq-eqb c.args.c 0x5B c.if-c-eq91.true)
+returns-in-91 c = rw c.in-91.is
 
-pub returns-then-c-eq40 : goal.returns-then-c-eq40
+pub returns-in-40 : goal.returns-in-40
 unfolding part_number op_kind part symbol
-returns-then-c-eq40 c = simp (ne_eqb c.args.c 0x5B c.if-c-eq91.false, eq-eqb c.args.c 0x28 c.if-c-eq40.true)
+returns-in-40 c = rw c.in-40.is
 
-pub returns-then-c-eq41 : goal.returns-then-c-eq41
+pub returns-in-41 : goal.returns-in-41
 unfolding part_number op_kind part symbol
-returns-then-c-eq41 c = simp (ne_eqb c.args.c 0x5B c.if-c-eq91.false, ne_eqb c.args.c 0x28 c.if-c-eq40.false, eq-eqb c.args.c 0x29 c.if-c-eq41.true)
+returns-in-41 c = rw c.in-41.is
 
-pub returns-then-c-eq8743 : goal.returns-then-c-eq8743
+pub returns-in-8743 : goal.returns-in-8743
 unfolding part_number op_kind part symbol
-returns-then-c-eq8743 c = simp (ne_eqb c.args.c 0x5B c.if-c-eq91.false, ne_eqb c.args.c 0x28 c.if-c-eq40.false, ne_eqb c.args.c 0x29 c.if-c-eq41.false, eq-eqb c.args.c 0x2227 c.if-c-eq8743.true)
+returns-in-8743 c = rw c.in-8743.is
 
-pub returns-then-c-eq8744 : goal.returns-then-c-eq8744
+pub returns-in-8744 : goal.returns-in-8744
 unfolding part_number op_kind part symbol
-returns-then-c-eq8744 c = simp (ne_eqb c.args.c 0x5B c.if-c-eq91.false, ne_eqb c.args.c 0x28 c.if-c-eq40.false, ne_eqb c.args.c 0x29 c.if-c-eq41.false, ne_eqb c.args.c 0x2227 c.if-c-eq8743.false, eq-eqb c.args.c 0x2228 c.if-c-eq8744.true)
+returns-in-8744 c = rw c.in-8744.is
 
-pub returns-then-c-eq8891 : goal.returns-then-c-eq8891
+pub returns-in-8891 : goal.returns-in-8891
 unfolding part_number op_kind part symbol
-returns-then-c-eq8891 c = simp (ne_eqb c.args.c 0x5B c.if-c-eq91.false, ne_eqb c.args.c 0x28 c.if-c-eq40.false, ne_eqb c.args.c 0x29 c.if-c-eq41.false, ne_eqb c.args.c 0x2227 c.if-c-eq8743.false, ne_eqb c.args.c 0x2228 c.if-c-eq8744.false, eq-eqb c.args.c 0x22BB c.if-c-eq8891.true)
+returns-in-8891 c = rw c.in-8891.is
 
-pub returns-then-is_white : goal.returns-then-is_white
+-- no character of a token
+other : (c : ℕ) (b : Bool) → is_white c ≡ b → ¬ (c ≡ 0x5B) → ¬ (c ≡ 0x28) → ¬ (c ≡ 0x29) → ¬ (c ≡ 0x2227) → ¬ (c ≡ 0x2228) → ¬ (c ≡ 0x22BB) → cond b 7 8 ≡ part_number (part c)
 unfolding part_number op_kind part symbol
-returns-then-is_white c = simp (ne_eqb c.args.c 0x5B c.if-c-eq91.false, ne_eqb c.args.c 0x28 c.if-c-eq40.false, ne_eqb c.args.c 0x29 c.if-c-eq41.false, ne_eqb c.args.c 0x2227 c.if-c-eq8743.false, ne_eqb c.args.c 0x2228 c.if-c-eq8744.false, ne_eqb c.args.c 0x22BB c.if-c-eq8891.false, sym c.is_white.ensures ∙ c.if-is_white.true)
+other c true e h₁ h₂ h₃ h₄ h₅ h₆ = simp (ne_eqb c 0x5B h₁, ne_eqb c 0x28 h₂, ne_eqb c 0x29 h₃, ne_eqb c 0x2227 h₄, ne_eqb c 0x2228 h₅, ne_eqb c 0x22BB h₆, e)
+other c false e h₁ h₂ h₃ h₄ h₅ h₆ = simp (ne_eqb c 0x5B h₁, ne_eqb c 0x28 h₂, ne_eqb c 0x29 h₃, ne_eqb c 0x2227 h₄, ne_eqb c 0x2228 h₅, ne_eqb c 0x22BB h₆, e)
 
-pub returns : goal.returns
-unfolding part_number op_kind part symbol
-returns c = simp (ne_eqb c.args.c 0x5B c.if-c-eq91.false, ne_eqb c.args.c 0x28 c.if-c-eq40.false, ne_eqb c.args.c 0x29 c.if-c-eq41.false, ne_eqb c.args.c 0x2227 c.if-c-eq8743.false, ne_eqb c.args.c 0x2228 c.if-c-eq8744.false, ne_eqb c.args.c 0x22BB c.if-c-eq8891.false, sym c.is_white.ensures ∙ c.if-is_white.false)
+pub returns-in_default : goal.returns-in_default
+returns-in_default c = other c.args.c true (sym c.is_white.ensures ∙ c.if-is_white.true) (λ e. omega arith) (λ e. omega arith) (λ e. omega arith) (λ e. omega arith) (λ e. omega arith) (λ e. omega arith)
+
+pub returns-in_default-2 : goal.returns-in_default-2
+returns-in_default-2 c = other c.args.c false (sym c.is_white.ensures ∙ c.if-is_white.false) (λ e. omega arith) (λ e. omega arith) (λ e. omega arith) (λ e. omega arith) (λ e. omega arith) (λ e. omega arith)

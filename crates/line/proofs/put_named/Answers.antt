@@ -1,21 +1,26 @@
+use mathlib.Core.Path.{◌≡◌}
+use Prim.Native.Nat.{◌+◌, ◌-◌, ◌*◌}
 use native.Mathlib.Omega.{arith}
 use Rattle.line.proofs.Named.{going_begin, going_room, going_next, going_end}
 use Rattle.line.proofs.put_named.Goals as goal
 
-pub loop-left-init : goal.loop-left-init
-loop-left-init c = going_begin _ _ _ _ _ c.requires.1 c.requires.2
+pub loop-k-init : goal.loop-k-init
+loop-k-init c = let all : c.args.count - 0 ≡ c.args.count = omega arith in rw all (going_begin _ _ _ _ _ c.requires.1 c.requires.2)
 
-pub get16-number-requires : goal.get16-number-requires
-get16-number-requires c = omega (arith, c.loop-left.invariant.place)
+pub get16-requires : goal.get16-requires
+get16-requires c = omega (arith, c.loop-k.invariant.place)
 
 pub put_cited-w-requires : goal.put_cited-w-requires
-put_cited-w-requires c = let r = going_room c.loop-left.invariant (omega arith) _ c.get16-number.ensures.0 c.requires.3 in (c.requires.0, r.0, r.1)
+put_cited-w-requires c = let r = going_room c.loop-k.invariant (omega arith) _ c.get16.ensures.0 c.requires.3 in (c.requires.0, r.0, r.1)
 
-pub loop-left-preserved : goal.loop-left-preserved
-loop-left-preserved c = going_next c.loop-left.invariant (omega arith) _ c.get16-number.ensures.0 c.put_cited-w.ensures c.put_cited-w.auto.out
-
-pub shape_of-out : goal.shape_of-out
-shape_of-out c = c.loop-left.invariant.kept
+pub loop-k-preserved : goal.loop-k-preserved
+loop-k-preserved c =
+    let left : c.args.count - (c.loop-k.k + 1) ≡ c.args.count - c.loop-k.k - 1 = omega arith in
+    let place : 2 * (c.loop-k.k + 1) ≡ 2 * c.loop-k.k + 2 = omega arith in
+    rw (left, place) (going_next c.loop-k.invariant (omega arith) _ c.get16.ensures.0 c.put_cited-w.ensures c.put_cited-w.auto.out)
 
 pub returns : goal.returns
-returns c = going_end c.loop-left.invariant (omega arith)
+returns c = going_end c.loop-k.invariant (omega arith)
+
+pub overflow_mul-k : goal.overflow_mul-k
+overflow_mul-k c = omega (arith, c.requires.1)

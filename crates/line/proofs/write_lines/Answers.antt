@@ -5,19 +5,19 @@ use Rattle.line.proofs.Outcomes.{status_refused, status_alone, status_tree}
 use Rattle.line.proofs.write_lines.Goals as goal
 
 pub slice_bounds-answered_lines-end : goal.slice_bounds-answered_lines-end
-slice_bounds-answered_lines-end c = (status_tree c.args.status.now c.args.answers.now c.args.value.now c.args.tree.now c.parse.new.out c.parse.result c.requires.0 c.parse.ensures.result_value c.parse.ensures.out_after c.in-Tree.kind c.in-Tree.length c.in-Tree.is).inside
+slice_bounds-answered_lines-end c = (status_tree c.args.status.now c.args.answers.now c.args.value.now c.args.tree.now c.parse.new.out c.parse.result c.requires.0 c.parse.ensures.result_value c.parse.ensures.out_after c.in-Ok-default-Some.kind c.in-Ok-default-Some.length (cc)).inside
 
-pub slice_bounds-answered_lines-end-in-Tree : goal.slice_bounds-answered_lines-end-in-Tree
-slice_bounds-answered_lines-end-in-Tree c = sym (length-take-le _ _ (status_tree c.args.status.now c.args.answers.now c.args.value.now c.args.tree.now c.parse.new.out c.parse.result c.requires.0 c.parse.ensures.result_value c.parse.ensures.out_after c.in-Tree.kind c.in-Tree.length c.in-Tree.is).inside)
+pub slice_bounds-answered_lines-end-in-Ok-default-Some : goal.slice_bounds-answered_lines-end-in-Ok-default-Some
+slice_bounds-answered_lines-end-in-Ok-default-Some c = sym (length-take-le _ _ (status_tree c.args.status.now c.args.answers.now c.args.value.now c.args.tree.now c.parse.new.out c.parse.result c.requires.0 c.parse.ensures.result_value c.parse.ensures.out_after c.in-Ok-default-Some.kind c.in-Ok-default-Some.length (cc)).inside)
 
 pub answered_lines-requires : goal.answered_lines-requires
-answered_lines-requires c = ((status_tree c.args.status.now c.args.answers.now c.args.value.now c.args.tree.now c.parse.new.out c.parse.result c.requires.0 c.parse.ensures.result_value c.parse.ensures.out_after c.in-Tree.kind c.in-Tree.length c.in-Tree.is).tree, c.requires.1)
+answered_lines-requires c = ((status_tree c.args.status.now c.args.answers.now c.args.value.now c.args.tree.now c.parse.new.out c.parse.result c.requires.0 c.parse.ensures.result_value c.parse.ensures.out_after c.in-Ok-default-Some.kind c.in-Ok-default-Some.length (cc)).tree, c.requires.1)
 
-pub returns-in-Refused : goal.returns-in-Refused
-returns-in-Refused c = appends.same (status_refused c.args.status.now c.args.answers.now c.args.value.now c.args.tree.now c.parse.new.out c.parse.result c.requires.0 c.parse.ensures.result_value c.parse.ensures.out_after c.in-Refused.why c.in-Refused.is) c.refused_line.ensures
+pub returns-in-Err : goal.returns-in-Err
+returns-in-Err c = appends.same (status_refused c.args.status.now c.args.answers.now c.args.value.now c.args.tree.now c.parse.new.out c.parse.result c.requires.0 c.parse.ensures.result_value c.parse.ensures.out_after c.in-Err.why c.in-Err.is) c.refused_line.ensures
 
-pub returns-in-Alone : goal.returns-in-Alone
-returns-in-Alone c = appends.same (status_alone c.args.status.now c.args.answers.now c.args.value.now c.args.tree.now c.parse.new.out c.parse.result c.requires.0 c.parse.ensures.result_value c.parse.ensures.out_after c.in-Alone.kind c.in-Alone.is) c.alone_lines.ensures
+pub returns-in-Ok-default-None : goal.returns-in-Ok-default-None
+returns-in-Ok-default-None c = appends.same (status_alone c.args.status.now c.args.answers.now c.args.value.now c.args.tree.now c.parse.new.out c.parse.result c.requires.0 c.parse.ensures.result_value c.parse.ensures.out_after c.in-Ok-default-None.kind (cc)) c.alone_lines.ensures
 
-pub returns-in-Tree : goal.returns-in-Tree
-returns-in-Tree c = appends.same (status_tree c.args.status.now c.args.answers.now c.args.value.now c.args.tree.now c.parse.new.out c.parse.result c.requires.0 c.parse.ensures.result_value c.parse.ensures.out_after c.in-Tree.kind c.in-Tree.length c.in-Tree.is).says c.answered_lines.ensures
+pub returns-in-Ok-default-Some : goal.returns-in-Ok-default-Some
+returns-in-Ok-default-Some c = appends.same (status_tree c.args.status.now c.args.answers.now c.args.value.now c.args.tree.now c.parse.new.out c.parse.result c.requires.0 c.parse.ensures.result_value c.parse.ensures.out_after c.in-Ok-default-Some.kind c.in-Ok-default-Some.length (cc)).says c.answered_lines.ensures

@@ -1,10 +1,7 @@
-use native.Mathlib.Omega.{arith}
-use Rattle.protocol.proofs.Pieces.{count_step, count_end}
+use Rattle.std.proofs.Common.{arith}
+use Rattle.std.proofs.lemmas.Grind.{common_steps}
+use Rattle.protocol.proofs.Pieces.{pieces_count}
 use Rattle.protocol.proofs.count_pieces.Goals as goal
 
-pub loop-i-preserved : goal.loop-i-preserved
-loop-i-preserved c = let k = count_step c.args.line.now c.loop-i.i (omega arith) in
-    (omega (arith, c.spaces-n.ensures.0), omega (arith, c.spaces-n.ensures.1), omega arith)
-
 pub returns : goal.returns
-returns c = omega (arith, count_end c.args.line.now c.loop-i.i (omega arith))
+returns c = grind (arith, common_steps, pieces_count c.args.line.now)

@@ -1,9 +1,6 @@
-use lib.ListN.{length}
-use borrow.Author.Tests.{le-leb, lt-leb}
+use mathlib.Core.Path.{◌∙◌}
+use Rattle.text.proofs.Laws.{ends_is_ends}
 use Rattle.text.proofs.ends_with.Goals as goal
 
-pub returns-then-s-text : goal.returns-then-s-text
-returns-then-s-text c = rw (lt-leb (length c.args.text.now) (length c.args.s.now) c.if-s-text.true)
-
 pub returns : goal.returns
-returns c = rw (le-leb (length c.args.text.now) (length c.args.s.now) c.if-s-text.false) c.begins_at.ensures
+returns c = c.ends_with.ensures.value ∙ ends_is_ends c.args.text.now c.args.s.now

@@ -7,4 +7,4 @@ use Rattle.text.proofs.number_up_to.Goals as goal
 pub returns : goal.returns
 unfolding number_up_to
 returns c = let a = c.args in
-    c.digits_up_to.ensures ∙ ap (digits_up_to a.most) (c.tail.ensures ∙ ap (λ (n : ℕ). drop n a.s.now) c.plus_width-from.ensures)
+    c.digits_up_to.ensures ∙ ap (digits_up_to a.most) (c.tail.ensures ∙ ap (λ (n : ℕ). drop n a.s.now) c.plus_width.ensures)

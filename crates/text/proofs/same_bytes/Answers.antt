@@ -1,9 +1,6 @@
-use lib.ListN.{length}
-use borrow.Author.Tests.{eq-eqb, ne_eqb}
+use mathlib.Core.Path.{◌∙◌}
+use Rattle.text.proofs.Laws.{equals_is_same}
 use Rattle.text.proofs.same_bytes.Goals as goal
 
-pub returns-then-s-text : goal.returns-then-s-text
-returns-then-s-text c = rw (ne_eqb (length c.args.s.now) (length c.args.text.now) c.if-s-text.true)
-
 pub returns : goal.returns
-returns c = rw (eq-eqb (length c.args.s.now) (length c.args.text.now) c.if-s-text.false) c.begins_at.ensures
+returns c = c.eq.ensures ∙ equals_is_same c.args.text.now c.args.s.now

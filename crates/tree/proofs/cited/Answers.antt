@@ -10,4 +10,4 @@ pub returns-then-cite_count-number : goal.returns-then-cite_count-number
 returns-then-cite_count-number c = cited-absent _ _ (sym c.is_tree.ensures ∙ c.if-not-is_tree.false) (omega (arith, c.cite_count.ensures.0))
 
 pub returns : goal.returns
-returns c = cited_at _ _ _ _ (sym c.is_tree.ensures ∙ c.if-not-is_tree.false) (omega (arith, c.cite_count.ensures.0)) c.text_start-start.ensures.0 c.text_size-size.ensures.0
+returns c = cited_at _ _ _ _ (sym c.is_tree.ensures ∙ c.if-not-is_tree.false) (omega (arith, c.cite_count.ensures.0)) c.text_start.ensures.0 c.text_size.ensures.0

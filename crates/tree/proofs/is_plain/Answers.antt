@@ -1,12 +1,10 @@
-use native.Mathlib.Omega.{arith}
-use Rattle.tree.proofs.Plain.{plain_low, plain_high, plain_in}
+use mathlib.Core.Path.{sym, ◌∙◌}
+use mathlib.Core.Bool.{true, false}
+use Rattle.tree.proofs.Plain.{plain_tested}
 use Rattle.tree.proofs.is_plain.Goals as goal
 
-pub returns-then-b-lt33 : goal.returns-then-b-lt33
-returns-then-b-lt33 c = plain_low _ c.if-b-lt33.true
+pub returns-then-is_ascii_graphic : goal.returns-then-is_ascii_graphic
+returns-then-is_ascii_graphic c = plain_tested _ true (sym c.is_ascii_graphic.ensures.value ∙ c.if-is_ascii_graphic.true)
 
-pub returns-then-b-gt126 : goal.returns-then-b-gt126
-returns-then-b-gt126 c = plain_high _ c.if-b-gt126.true
-
-pub returns : goal.returns
-returns c = plain_in _ (omega arith) (omega arith)
+pub returns-else-is_ascii_graphic : goal.returns-else-is_ascii_graphic
+returns-else-is_ascii_graphic c = c.if-is_ascii_graphic.false ∙ plain_tested _ false (sym c.is_ascii_graphic.ensures.value ∙ c.if-is_ascii_graphic.false)

@@ -1,7 +1,7 @@
 use native.Mathlib.Omega.{arith}
 use mathlib.Core.Path.{sym, ◌∙◌}
 use Rattle.grammar.specs.Trees.{headed}
-use Rattle.tree.proofs.Plain.{plain_said}
+use Rattle.tree.proofs.Plain.{plain_rest}
 use Rattle.tree.proofs.Steps.{tree_head, tree_root, tree_rows, tree_last}
 use Rattle.tree.proofs.is_tree.Goals as goal
 
@@ -26,11 +26,17 @@ rows_ok-requires c = let k = headed _ (sym c.head_ok.ensures ∙ c.if-not-head_o
 pub returns-then-not-rows_ok : goal.returns-then-not-rows_ok
 returns-then-not-rows_ok c = tree_rows _ _ _ c.get16-n.ensures.0 c.get16-c.ensures.0 (sym c.rows_ok.ensures ∙ c.if-not-rows_ok.true)
 
+pub slice_bounds-all_plain-count : goal.slice_bounds-all_plain-count
+slice_bounds-all_plain-count c = let k = headed _ (sym c.head_ok.ensures ∙ c.if-not-head_ok.false) in omega (arith, k.inside, c.get16-n.ensures.0, c.get16-c.ensures.0)
+
+pub slice_bounds-all_plain-start : goal.slice_bounds-all_plain-start
+slice_bounds-all_plain-start c = let k = headed _ (sym c.head_ok.ensures ∙ c.if-not-head_ok.false) in omega (arith, k.inside, c.get16-n.ensures.0, c.get16-c.ensures.0)
+
 pub cites_ok-requires : goal.cites_ok-requires
 cites_ok-requires c = let k = headed _ (sym c.head_ok.ensures ∙ c.if-not-head_ok.false) in
     let n = c.get16-n.ensures.0 in
     let m = c.get16-c.ensures.0 in
-    (omega (arith, n, m), omega (arith, k.inside, n, m), omega (arith, k.inside, n, m), plain_said _ _ c.all_plain-plain.ensures)
+    (omega (arith, n, m), omega (arith, k.inside, n, m), omega (arith, k.inside, n, m), plain_rest _ c.args.tree.now _ c.all_plain-plain.ensures)
 
 pub returns : goal.returns
 returns c = c.cites_ok.ensures

@@ -2,17 +2,18 @@ use native.Mathlib.Omega.{arith}
 use Prim.Native.Nat.{ℕ, ◌+◌, ◌-◌}
 use mathlib.Core.Path.{ap, ◌∙◌}
 use lib.Dec.{eqb}
+use borrow.Author.Tests.{ne_eqb}
 use Rattle.grammar.specs.Bytes.{row_size}
 use Rattle.grammar.specs.Pack.{rows_length}
 use Rattle.tree.proofs.Steps as steps
 use Rattle.tree.proofs.row_ok.Goals as goal
 
-pub returns-then-m-n : goal.returns-then-m-n
-returns-then-m-n c = steps.leaf_number _ _ _ _ _ (omega (arith, c.get16-k.ensures.0, c.if-k-eq0.true)) (λ e. omega (arith, c.get16-m.ensures.0, c.if-m-n.true, e))
+pub returns-else-m-n : goal.returns-else-m-n
+returns-else-m-n c = ne_eqb c.get16-m.result c.args.n c.if-m-n.false ∙ steps.leaf_number _ _ _ _ _ (omega (arith, c.get16-k.ensures.0, c.if-k-eq0.true)) (λ e. c.if-m-n.false (c.get16-m.ensures.0 ∙ e))
 
-pub returns-then-k-eq0 : goal.returns-then-k-eq0
-returns-then-k-eq0 c = ap (λ (x : ℕ). eqb x 1) c.get16-z.ensures.0
-    ∙ steps.leaf_size _ _ _ _ _ (omega (arith, c.get16-k.ensures.0, c.if-k-eq0.true)) (omega (arith, c.get16-m.ensures.0, c.if-m-n.false))
+pub returns-then-m-n : goal.returns-then-m-n
+returns-then-m-n c = ap (λ (x : ℕ). eqb x 1) c.get16-z.ensures.0
+    ∙ steps.leaf_size _ _ _ _ _ (omega (arith, c.get16-k.ensures.0, c.if-k-eq0.true)) (omega (arith, c.get16-m.ensures.0, c.if-m-n.true))
 
 pub returns-then-k-gt4 : goal.returns-then-k-gt4
 returns-then-k-gt4 c = steps.inner_kind _ _ _ _ _ (omega (arith, c.get16-k.ensures.0))

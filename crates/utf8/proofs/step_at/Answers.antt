@@ -2,8 +2,7 @@ use native.Mathlib.Omega.{arith}
 use Prim.Native.Nat.{◌+◌}
 use mathlib.Core.Path.{sym, ap, ◌∙◌, subst}
 use lib.ListN.{drop, get_or, drop_of_length-le}
-use Rattle.utf8.specs.Utf8.{with_lead}
-use Rattle.utf8.specs.declared.Lead.{Lead}
+use Rattle.utf8.specs.Utf8.{Lead, with_lead}
 use Rattle.utf8.proofs.Laws.{Small, lead_small, step_lead}
 use Rattle.utf8.proofs.step_at.Goals as goal
 
@@ -13,18 +12,18 @@ returns-then-s-at c = let a = c.args in
 
 pub rest-requires : goal.rest-requires
 rest-requires c = let a = c.args in
-    let e = sym c.lead_of-first.ensures ∙ c.in-First.is in
+    let e = sym c.lead_of.ensures ∙ c.in-Some.is in
     let h = subst Small e (lead_small (get_or a.s.now a.at 0)) in
     (omega arith, (h.0, (h.1, (h.2, h.3))))
 
-pub returns-in-Never : goal.returns-in-Never
-returns-in-Never c = let a = c.args in
+pub returns-in-None : goal.returns-in-None
+returns-in-None c = let a = c.args in
     sym
-    (step_lead a.s.now a.at (omega arith) ∙ ap (λ (l : Lead). with_lead l (drop (a.at + 1) a.s.now)) (sym c.lead_of-first.ensures ∙ c.in-Never.is))
+    (step_lead a.s.now a.at (omega arith) ∙ ap (λ (l : Lead). with_lead l (drop (a.at + 1) a.s.now)) (sym c.lead_of.ensures ∙ c.in-None.is))
 
-pub returns-in-First : goal.returns-in-First
-returns-in-First c = let a = c.args in
+pub returns-in-Some : goal.returns-in-Some
+returns-in-Some c = let a = c.args in
     c.rest.ensures
     ∙ sym
     (step_lead a.s.now a.at (omega arith)
-    ∙ ap (λ (l : Lead). with_lead l (drop (a.at + 1) a.s.now)) (sym c.lead_of-first.ensures ∙ c.in-First.is))
+    ∙ ap (λ (l : Lead). with_lead l (drop (a.at + 1) a.s.now)) (sym c.lead_of.ensures ∙ c.in-Some.is))

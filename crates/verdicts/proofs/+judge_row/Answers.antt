@@ -1,4 +1,5 @@
-use mathlib.Core.Path.{refl, sym, ◌∙◌}
+use Prim.Native.Nat.{◌+◌, ◌-◌}
+use mathlib.Core.Path.{◌≡◌, refl, sym, ◌∙◌}
 use native.Mathlib.Omega.{arith}
 use Rattle.verdicts.proofs.Laws as laws
 use Rattle.verdicts.proofs.+judge_row.Goals as goal
@@ -18,23 +19,22 @@ returns-then-k-eq0 t c = let b = c.requires in laws.leaf_judged c.args.value.now
 pub overflow_add-child : goal.overflow_add-child
 overflow_add-child t c = let b = c.requires in omega (arith, b.1, laws.few_rows c.args.value.now c.args.tree.now b.0)
 
-pub loop-left-init : goal.loop-left-init
-loop-left-init t c = let b = c.requires in laws.state_starts c.args.value.now c.args.tree.now b.0 _ _ _ _ _ b.1 (λ q. c.if-k-eq0.false (c.kind_at-k.ensures.0 ∙ q)) c.number_at-m.ensures.0 c.new-tally.ensures
+pub loop-init : goal.loop-init
+loop-init t c = let b = c.requires in laws.state_starts c.args.value.now c.args.tree.now b.0 _ _ _ _ _ b.1 (λ q. c.if-k-eq0.false (c.kind_at-k.ensures.0 ∙ q)) (omega (arith, c.number_at-m.ensures.0)) c.new-tally.ensures
 
-pub size_at-size-requires : goal.size_at-size-requires
-size_at-size-requires t c = let b = c.requires in (b.0, (laws.state_next c.args.value.now c.args.tree.now b.0 c.loop-left.invariant (omega arith)).inside)
+pub size_at-child-requires : goal.size_at-child-requires
+size_at-child-requires t c = let b = c.requires in (b.0, (laws.state_next c.args.value.now c.args.tree.now b.0 c.loop.invariant (omega arith)).inside)
 
 pub judge_row-here-requires : goal.judge_row-here-requires
-judge_row-here-requires t c = let b = c.requires in let n = laws.state_next c.args.value.now c.args.tree.now b.0 c.loop-left.invariant (omega arith) in (omega (arith, c.decreases, n.shrinks), (b.0, n.inside, laws.state_room c.args.value.now c.args.tree.now b.0 c.loop-left.invariant (omega arith) b.2 (λ q. c.if-k-eq0.false (c.kind_at-k.ensures.0 ∙ q))))
+judge_row-here-requires t c = let b = c.requires in let n = laws.state_next c.args.value.now c.args.tree.now b.0 c.loop.invariant (omega arith) in (omega (arith, c.decreases, n.shrinks), (b.0, n.inside, laws.state_room c.args.value.now c.args.tree.now b.0 c.loop.invariant (omega arith) b.2 (λ q. c.if-k-eq0.false (c.kind_at-k.ensures.0 ∙ q))))
 
-pub overflow_add-child-in-loop-left : goal.overflow_add-child-in-loop-left
-overflow_add-child-in-loop-left t c = let b = c.requires in let n = laws.state_next c.args.value.now c.args.tree.now b.0 c.loop-left.invariant (omega arith) in omega (arith, n.walk.within, c.size_at-size.ensures.0, laws.few_rows c.args.value.now c.args.tree.now b.0)
+pub overflow_add-child-in-loop : goal.overflow_add-child-in-loop
+overflow_add-child-in-loop t c = let b = c.requires in let n = laws.state_next c.args.value.now c.args.tree.now b.0 c.loop.invariant (omega arith) in omega (arith, n.walk.within, c.size_at-child.ensures.0, laws.few_rows c.args.value.now c.args.tree.now b.0)
 
-pub loop-left-preserved : goal.loop-left-preserved
-loop-left-preserved t c = laws.state_again c.args.value.now c.args.tree.now c.requires.0 c.loop-left.invariant (omega arith) _ _ c.size_at-size.ensures.0 c.judge_row-here.ensures c.judge_row-here.auto.list c.add-tally.ensures
-
-pub shape_of-list : goal.shape_of-list
-shape_of-list t c = c.loop-left.invariant.kept
+pub loop-preserved : goal.loop-preserved
+loop-preserved t c =
+    let less : c.number_at-m.result - c.loop.counter - 1 ≡ c.number_at-m.result - (c.loop.counter + 1) = omega arith in
+    rw (← less) (laws.state_again c.args.value.now c.args.tree.now c.requires.0 c.loop.invariant (omega arith) _ _ c.size_at-child.ensures.0 c.judge_row-here.ensures c.judge_row-here.auto.list c.add-tally.ensures)
 
 pub returns : goal.returns
-returns t c = laws.state_ends c.args.value.now c.args.tree.now c.requires.0 c.loop-left.invariant (omega arith) _ c.kind_at-k.ensures.0 c.if-k-eq0.false _ c.rule.ensures refl
+returns t c = laws.state_ends c.args.value.now c.args.tree.now c.requires.0 c.loop.invariant (omega arith) _ c.kind_at-k.ensures.0 c.if-k-eq0.false _ c.node_truth.ensures refl

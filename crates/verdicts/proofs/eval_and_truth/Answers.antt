@@ -1,4 +1,5 @@
 use mathlib.Core.Path.{sym, ◌∙◌}
+use Rattle.std.proofs.lemmas.Result.{err_from_is_err_and}
 use Rattle.utf8.specs.Limits.{value_limit}
 use Rattle.utf8.proofs.Limits.{admitted_fine, admitted_refused}
 use Rattle.verdicts.proofs.Laws.{both-no-tree, both_unfit, both_turned, both_refused, both_done}
@@ -13,8 +14,10 @@ answers_fit-requires c = sym c.is_tree.ensures ∙ c.if-not-is_tree.false
 pub returns-then-not-answers_fit : goal.returns-then-not-answers_fit
 returns-then-not-answers_fit c = both_unfit _ _ _ (sym c.is_tree.ensures ∙ c.if-not-is_tree.false) (sym c.answers_fit.ensures ∙ c.if-not-answers_fit.true)
 
-pub returns-in-Refused : goal.returns-in-Refused
-returns-in-Refused c = both_turned _ _ _ (sym c.is_tree.ensures ∙ c.if-not-is_tree.false) (sym c.answers_fit.ensures ∙ c.if-not-answers_fit.false) _ (λ r. admitted_refused value_limit c.args.value.now c.admit-admitted.ensures c.in-Refused.is r)
+pub returns-in_err-admit : goal.returns-in_err-admit
+returns-in_err-admit c = let p = err_from_is_err_and c.from_residual.result c.from_residual.ensures.1 in
+    rw (p.1, p.2)
+    (both_turned _ _ _ (sym c.is_tree.ensures ∙ c.if-not-is_tree.false) (sym c.answers_fit.ensures ∙ c.if-not-answers_fit.false) _ (λ r. admitted_refused value_limit c.args.value.now c.admit.ensures c.in_err-admit.was r))
 
 pub eval_tree-requires : goal.eval_tree-requires
 eval_tree-requires c = (sym c.is_tree.ensures ∙ c.if-not-is_tree.false, sym c.answers_fit.ensures ∙ c.if-not-answers_fit.false)
@@ -22,8 +25,10 @@ eval_tree-requires c = (sym c.is_tree.ensures ∙ c.if-not-is_tree.false, sym c.
 pub truth_of-requires : goal.truth_of-requires
 truth_of-requires c = sym c.is_tree.ensures ∙ c.if-not-is_tree.false
 
-pub returns-in-Refused-eval_tree : goal.returns-in-Refused-eval_tree
-returns-in-Refused-eval_tree c = both_refused _ _ _ (sym c.is_tree.ensures ∙ c.if-not-is_tree.false) (sym c.answers_fit.ensures ∙ c.if-not-answers_fit.false) (λ r. admitted_fine value_limit c.args.value.now c.admit-admitted.ensures c.in_default.is r) _ c.eval_tree.ensures c.in-Refused-eval_tree.why c.in-Refused-eval_tree.is
+pub returns-in_err-found : goal.returns-in_err-found
+returns-in_err-found c = let p = err_from_is_err_and c.from_residual-in_err-found.result c.from_residual-in_err-found.ensures.1 in
+    rw (p.1, p.2)
+    (both_refused _ _ _ (sym c.is_tree.ensures ∙ c.if-not-is_tree.false) (sym c.answers_fit.ensures ∙ c.if-not-answers_fit.false) (λ r. admitted_fine value_limit c.args.value.now c.admit.ensures c.in_ok-admit.was r) _ c.eval_tree.ensures _ c.in_err-found.was)
 
-pub returns-in-Value : goal.returns-in-Value
-returns-in-Value c = both_done _ _ _ (sym c.is_tree.ensures ∙ c.if-not-is_tree.false) (sym c.answers_fit.ensures ∙ c.if-not-answers_fit.false) (λ r. admitted_fine value_limit c.args.value.now c.admit-admitted.ensures c.in_default.is r) _ c.eval_tree.ensures c.in-Value.found _ c.in-Value.is c.truth_of.ensures
+pub returns : goal.returns
+returns c = both_done _ _ _ (sym c.is_tree.ensures ∙ c.if-not-is_tree.false) (sym c.answers_fit.ensures ∙ c.if-not-answers_fit.false) (λ r. admitted_fine value_limit c.args.value.now c.admit.ensures c.in_ok-admit.was r) _ c.eval_tree.ensures _ _ c.in_ok-found.was c.truth_of.ensures

@@ -1,25 +1,24 @@
 use native.Mathlib.Omega.{arith}
 use Rattle.fields.proofs.Appends as appends
-use Prim.Native.Nat.{◌+◌}
-use mathlib.Core.Path.{refl, sym, ap}
+use mathlib.Core.Path.{sym, ap}
 use lib.ListN.{length}
-use Rattle.writer.proofs.Rows.{texts_none, texts-next, size_first, size_next}
+use lib.Seq.{take_all}
+use Prim.Native.Nat.{◌+◌}
+use Rattle.writer.proofs.Rows.{texts_none, texts-next, size_all, size_next}
 use Rattle.writer.proofs.put_texts.Goals as goal
 
-pub loop-i-init : goal.loop-i-init
-loop-i-init c = let a = c.args in
-    (omega arith, refl, appends.same (sym (texts_none a.text.now a.places.now)) (appends.nothing _ _))
+pub loop-place-init : goal.loop-place-init
+loop-place-init c = appends.same (sym (texts_none c.args.text.now c.args.places.now)) (appends.nothing _ _)
 
 pub put_text-w-requires : goal.put_text-w-requires
 put_text-w-requires c = let a = c.args in
-    let s = c.loop-i.invariant in
-    omega (arith, c.requires.1, s.1, s.2.ends, ap length c.cut_at-part.ensures, size_next a.text.now a.places.now c.loop-i.i (omega (arith, c.requires.0)), size_first a.text.now a.places.now (c.loop-i.i + 1) a.c (omega arith))
+    let l = c.loop-place in
+    omega (arith, c.requires, l.invariant.ends, ap length c.cut_at.ensures, size_next a.text.now a.places.now l.place-index (omega arith), size_all a.text.now a.places.now (l.place-index + 1))
 
-pub loop-i-preserved : goal.loop-i-preserved
-loop-i-preserved c = let a = c.args in
-    let s = c.loop-i.invariant in (
-      omega arith,
-      omega (arith, s.1),
-      appends.same (texts-next a.text.now a.places.now c.loop-i.i (omega (arith, c.requires.0)))
-          (appends.both s.2 (appends.same c.cut_at-part.ensures c.put_text-w.ensures)),
-    )
+pub loop-place-preserved : goal.loop-place-preserved
+loop-place-preserved c =
+    appends.same (texts-next c.args.text.now c.args.places.now c.loop-place.place-index (omega arith))
+    (appends.both c.loop-place.invariant (appends.same c.cut_at.ensures c.put_text-w.ensures))
+
+pub returns : goal.returns
+returns c = rw (take_all c.loop-place.place-index c.args.places.now (omega arith)) at c.loop-place.invariant

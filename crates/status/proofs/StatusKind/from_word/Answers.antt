@@ -1,24 +1,25 @@
 use native.Mathlib.Omega.{arith}
-use mathlib.Core.Path.{refl, sym, ◌∙◌}
+use mathlib.Core.Path.{refl, sym, ap, ◌∙◌}
+use mathlib.Core.List.{List}
+use Prim.Native.Nat.{ℕ}
+use Rattle.text.specs.Bytes.{same}
 use Rattle.status.specs.Status.{kind_of_word}
 use Rattle.status.proofs.Laws.{kind_here, kind_later, kind_none}
 use Rattle.status.proofs.StatusKind.from_word.Goals as goal
 
-pub loop-code-init : goal.loop-code-init
+pub loop-kind-init : goal.loop-kind-init
 unfolding kind_of_word
-loop-code-init c = refl
+loop-kind-init c = refl
 
-pub returns-then-has_word : goal.returns-then-has_word
-returns-then-has_word c = sym (kind_here c.args.word.now c.loop-code.code (omega arith) c.of_code-kind.result c.of_code-kind.ensures (sym c.has_word.ensures ∙ c.if-has_word.true)) ∙ c.loop-code.invariant
+pub returns-then-same_bytes : goal.returns-then-same_bytes
+returns-then-same_bytes c = let w = c.args.word.now in
+    let e = ap (λ (t : List ℕ). same t w) (c.as_bytes.ensures.value ∙ c.as_str.ensures) in
+    sym (kind_here w c.loop-kind.kind-index (omega arith) (sym e ∙ sym c.same_bytes.ensures ∙ c.if-same_bytes.true)) ∙ c.loop-kind.invariant
 
-pub overflow_add-code : goal.overflow_add-code
-overflow_add-code c = omega arith
-
-pub loop-code-smaller : goal.loop-code-smaller
-loop-code-smaller c = omega arith
-
-pub loop-code-preserved : goal.loop-code-preserved
-loop-code-preserved c = sym (kind_later c.args.word.now c.loop-code.code (omega arith) c.of_code-kind.result c.of_code-kind.ensures (sym c.has_word.ensures ∙ c.if-has_word.false)) ∙ c.loop-code.invariant
+pub loop-kind-preserved : goal.loop-kind-preserved
+loop-kind-preserved c = let w = c.args.word.now in
+    let e = ap (λ (t : List ℕ). same t w) (c.as_bytes.ensures.value ∙ c.as_str.ensures) in
+    sym (kind_later w c.loop-kind.kind-index (omega arith) (sym e ∙ sym c.same_bytes.ensures ∙ c.if-same_bytes.false)) ∙ c.loop-kind.invariant
 
 pub returns : goal.returns
-returns c = sym (kind_none c.args.word.now c.loop-code.code (omega arith)) ∙ c.loop-code.invariant
+returns c = sym (kind_none c.args.word.now c.loop-kind.kind-index (omega arith)) ∙ c.loop-kind.invariant
