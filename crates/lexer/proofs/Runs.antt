@@ -1,17 +1,15 @@
 -- Runs of characters, and where they end. Assumes nothing.
-use Prim.Native.Nat.{ℕ, zero, suc, ◌+◌, ◌/◌, ◌%◌, ◌≤◌, ◌<◌}
+use Prim.Native.Nat.{ℕ, suc, ◌+◌, ◌/◌, ◌%◌, ◌≤◌, ◌<◌}
 use mathlib.Core.Path.{◌≡◌, refl, sym, ap, ◌∙◌}
-use mathlib.Core.Bool.{Bool, true, false, not, beq, cond}
+use mathlib.Core.Bool.{Bool, true, false, not, beq}
 use mathlib.Core.List.{List, [], ◌∷◌, ◌++◌}
 use native.Mathlib.Omega.{arith}
+use native.Mathlib.Numerals.{add-one}
 use lib.Dec.{eqb, ltb}
-use lib.ListN.{length, drop, get_or, length-drop}
-use lib.Seq.{get_or-drop}
-use borrow.Author.Tests.{eq-eqb, ne_eqb, eqb-true, eqb-false, ltb-true, ltb-false}
+use lib.ListN.{length, drop, get_or, length-drop, drop_of_length-le}
+use lib.Seq.{drop-cons}
+use borrow.Author.Tests.{eq-eqb, ne_eqb, eqb-true, eqb-false, ltb-false}
 use Rattle.laws.specs.Tests.{agree, cond_both}
-use Rattle.std.specs.Prelude.{Option, Some, None}
-use Rattle.std.specs.List.{position_or_len}
-use Rattle.std.proofs.lemmas.List.Recursion.{is_position_or_len}
 use Rattle.utf8.specs.Utf8.{decode, encode, encode_char, step_at}
 use Rattle.utf8.specs.White.{is_white}
 use Rattle.utf8.specs.declared.Step.{Step}
@@ -211,48 +209,18 @@ upto_bytes x (c ∷ cs) h = go (eqb c x) refl (upto_bytes x cs h)
         rw e (ap (λ (y : ℕ). up_to x (encode_char y ++ encode cs)) q ∙ ap (up_to x) (ascii_char x (encode cs) h) ∙ upto_here x x (encode cs) refl)
     go false e k = rw e (upto_char x c (encode cs) h (eqb-false c x e) ∙ ap (λ (y : List ℕ). encode_char c ++ y) k)
 
--- `l` and where the first byte that passes stands in it, as `position` says
-module _ (test : ℕ → Bool) (l : List ℕ) {r : Option ℕ} (h : r ≡ cond (ltb (position_or_len test l) (length l)) (Some (position_or_len test l)) None) where
-  pub place_found : (n : ℕ) → r ≡ Some n → (n < length l) × (n ≡ position_or_len test l)
-  place_found n e = go (ltb (position_or_len test l) (length l)) refl (sym h ∙ e)
-    where
-      go : (b : Bool) → ltb (position_or_len test l) (length l) ≡ b → cond b (Some (position_or_len test l)) None ≡ Some n → (n < length l) × (n ≡ position_or_len test l)
-      go true q f = let z : position_or_len test l ≡ n = cc in (omega (arith, ltb-true (position_or_len test l) (length l) q), sym z)
-      go false q f = let z : ◌≡◌ {A = ℕ} 0 1 = cc in absurd (omega arith)
+-- the search from `i` on, by the byte there
+module _ (x : ℕ) (s : List ℕ) (i : ℕ) where
+  pub find_on : i < length s → (get_or s i 0 ≡ x → ⊥) → i + 1 + length (up_to x (drop (i + 1) s)) ≡ i + length (up_to x (drop i s))
+  find_on h n =
+      let e : length (up_to x (drop i s)) ≡ suc (length (up_to x (drop (suc i) s))) =
+      ap (λ (l : List ℕ). length (up_to x l)) (drop-cons s i 0 h) ∙ ap length (upto_skip x (get_or s i 0) (drop (suc i) s) n) in
+      rw (add-one i) (omega (arith, e))
 
-  pub place_none : r ≡ None → length l ≤ position_or_len test l
-  place_none e = go (ltb (position_or_len test l) (length l)) refl (sym h ∙ e)
-    where
-      go : (b : Bool) → ltb (position_or_len test l) (length l) ≡ b → cond b (Some (position_or_len test l)) None ≡ None → length l ≤ position_or_len test l
-      go false q f = ltb-false (position_or_len test l) (length l) q
-      go true q f = let z : ◌≡◌ {A = ℕ} 0 1 = cc in absurd (omega arith)
+  pub find_here : i < length s → get_or s i 0 ≡ x → i ≡ i + length (up_to x (drop i s))
+  find_here h e =
+      omega (arith, ap (λ (l : List ℕ). length (up_to x l)) (drop-cons s i 0 h) ∙ ap length (upto_here x (get_or s i 0) (drop (suc i) s) e))
 
-upto_none : (x : ℕ) → length (up_to x []) ≡ 0
-unfolding up_to
-upto_none x = refl
-
-upto_more : (x c : ℕ) (cs : List ℕ) → length (up_to x (c ∷ cs)) ≡ cond (eqb c x) 0 (1 + length (up_to x cs))
-unfolding up_to
-upto_more x c cs = go (eqb c x)
-  where
-    go : (b : Bool) → length (cond b [] (c ∷ up_to x cs)) ≡ cond b 0 (1 + length (up_to x cs))
-    go true = refl
-    go false = omega arith
-
--- the first x, as `position` says
-pub upto_place : (x : ℕ) (l : List ℕ) → length (up_to x l) ≡ position_or_len (λ b. eqb b x) l
-upto_place x l = is_position_or_len (λ (s : List ℕ). length (up_to x s)) (λ b. eqb b x) (upto_none x) (upto_more x) l
-
--- spaces in front
-pub spaces_on : (s : List ℕ) (at n : ℕ) → at + n ≤ length s → ((k : ℕ) → k < n → get_or (drop at s) k 0 ≡ blank_char) → run_end true s (at + n) ≡ run_end true s at
-spaces_on s at zero h e = let z : at + 0 ≡ at = omega arith in rw z
-spaces_on s at (suc n) h e =
-    let z : at + suc n ≡ at + n + 1 = omega arith in
-    rw z (space_on s (at + n) (omega arith) (sym (get_or-drop at s n 0) ∙ e n (omega arith)) ∙ spaces_on s at n (omega arith) (λ k l. e k (omega arith)))
-
-pub is_space : (b : ℕ) → not (eqb b blank_char) ≡ false → b ≡ blank_char
-is_space b h = go (eqb b blank_char) refl h
-  where
-    go : (t : Bool) → eqb b blank_char ≡ t → not t ≡ false → b ≡ blank_char
-    go true e i = eqb-true b blank_char e
-    go false e i = let z : ◌≡◌ {A = ℕ} 0 1 = cc in absurd (omega arith)
+  pub find_out : length s ≤ i → i ≡ i + length (up_to x (drop i s))
+  unfolding up_to
+  find_out h = omega (arith, ap (λ (l : List ℕ). length (up_to x l)) (drop_of_length-le s h))

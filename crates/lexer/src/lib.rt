@@ -17,7 +17,6 @@ ghost use Rattle.lexer.specs.State.{Closes, Begins, State, Turned, Ends};
 
 use fields::put_text;
 use refusal::Refusal;
-use text::tail;
 use utf8::Step;
 
 // The kinds of tokens; a citation and the operators have those of their node rows.
@@ -111,14 +110,16 @@ fn other_end(text: &[u8], at: usize) -> usize
     any_end(text, at, true)
 }
 
-// The place after the white space from `at` on: spaces first.
+// The place after the white space from `at` on: spaces first. By `for`: `position` takes three times as long on white space.
 fn white_end(text: &[u8], at: usize) -> usize
     ensures { result ≡ run_end true text.now at }
 {
-    match tail(text, at).iter().position(|&b| b != b' ') {
-        Some(spaces) => other_end(text, at + spaces),
-        None => at.max(text.len()),
+    for i in at..text.len() {
+        if text[i] != b' ' {
+            return other_end(text, i);
+        }
     }
+    at.max(text.len())
 }
 
 // The place after the characters from `at` on that are white space, or after those that are not.
@@ -131,15 +132,27 @@ pub fn run_end(text: &[u8], at: usize, white: bool) -> usize
     any_end(text, at, false)
 }
 
+// The place of the first `]` from `at` on, or the text's end. By `for`, as `white_end`.
+fn find_end(text: &[u8], at: usize) -> usize
+    ensures { result ≡ at + length (up_to cite_end (drop at text.now)) }
+{
+    for i in at..text.len() {
+        if text[i] == b']' {
+            return i;
+        }
+    }
+    at.max(text.len())
+}
+
 // Where the citation's text ends that begins at `at`.
 fn close_at(text: &[u8], at: usize) -> Result<usize, Refusal>
     requires { (at ≤ length text.now) × (is_utf8 (drop at text.now) ≡ true) }
     ensures { Closes text.now at result }
 {
-    let Some(size) = text[at..].iter().position(|&b| b == b']') else {
+    let end = find_end(text, at);
+    if text.len() <= end {
         return Err(Refusal::Unterminated);
-    };
-    let end = at + size;
+    }
     if run_end(text, at, true) == end {
         return Err(Refusal::EmptyCondition);
     }
