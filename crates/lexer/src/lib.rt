@@ -110,7 +110,7 @@ fn other_end(text: &[u8], at: usize) -> usize
     any_end(text, at, true)
 }
 
-// The place after the white space from `at` on: spaces first. By `for`: `position` takes three times as long on white space.
+// The place after the white space from `at` on: spaces first.
 fn white_end(text: &[u8], at: usize) -> usize
     ensures { result ≡ run_end true text.now at }
 {
@@ -132,7 +132,7 @@ pub fn run_end(text: &[u8], at: usize, white: bool) -> usize
     any_end(text, at, false)
 }
 
-// The place of the first `]` from `at` on, or the text's end. By `for`, as `white_end`.
+// The place of the first `]` from `at` on, or the text's end.
 fn find_end(text: &[u8], at: usize) -> usize
     ensures { result ≡ at + length (up_to cite_end (drop at text.now)) }
 {

@@ -101,7 +101,7 @@ fn all_ascii(s: &[u8]) -> bool
 {
     let mut ascii = true;
     for b in s {
-        ascii = ascii && *b < 0x80;
+        ascii &= *b < 0x80;
     }
     ascii
 }
