@@ -58,7 +58,7 @@ const OUT: usize = 131200;
 
 // What is held between two reads: the present line, room for its fields, and the answers that wait to be written.
 #[derive(Drop)]
-struct Session {
+struct Exchange {
     line: [u8; HELD],
     len: usize,
     fields: Fields,
@@ -68,9 +68,9 @@ struct Session {
     ghost waits: { waiting ≤ 131200 },
 }
 
-impl Session {
-    fn new() -> Session {
-        Session {
+impl Exchange {
+    fn new() -> Exchange {
+        Exchange {
             line: [0; HELD],
             len: 0,
             fields: Fields::new(),
@@ -138,16 +138,16 @@ impl Session {
 
 // Nothing says that the input ends, so the turns are counted, up to a number that no run uses up.
 fn answer_all<R: Read, W: Write>(from: &mut R, to: &mut W) {
-    let mut session = Session::new();
+    let mut exchange = Exchange::new();
     let mut input = [0u8; 65536];
     for _ in 0..u64::MAX {
         let n = console::read_some(from, &mut input);
         if n == 0 {
             break;
         }
-        session.feed_all(&input[..n], to);
+        exchange.feed_all(&input[..n], to);
     }
-    session.end(to);
+    exchange.end(to);
 }
 
 fn main(rt: HostRuntime) {
