@@ -1,14 +1,16 @@
 -- An answer's number and the lent bytes, by the mode. Assumes nothing.
-use Rattle.std.specs.Prelude.{Result, Ok, Err}
-use mathlib.Core.Path.{◌≡◌, refl, sym, ap, ◌∙◌}
+use Rattle.std.specs.Prelude.{Result, Ok, Err, MatchResult}
+use mathlib.Core.Path.{◌≡◌, refl, sym, ap, subst, ◌∙◌}
 use mathlib.Core.List.{List}
 use mathlib.Core.Bool.{Bool, true, false}
-use Prim.Native.Nat.{ℕ}
+use Prim.Native.Nat.{ℕ, ◌+◌}
 use native.Mathlib.Omega.{arith}
 use lib.Dec.{leb}
 use lib.ListN.{length}
 use borrow.Author.Tests.{eq-eqb, ne_eqb}
 use Rattle.refusal.specs.declared.Refusal.{Refusal}
+use Rattle.refusal.specs.Refusals.{number_of}
+use Rattle.refusal.specs.Known.{Among}
 use Rattle.refusal.specs.Result.{unless, then, map_ok}
 use Rattle.refusal.specs.declared.Refusal.TheVariants.{NoRoom}
 use Rattle.citation.specs.declared.Truth.{Truth}
@@ -18,6 +20,17 @@ use Rattle.grammar.proofs.Outcome.{answer_fits, written_fits}
 use Rattle.semantics.specs.Answers.{truth_answer, violations_answer}
 use Rattle.ahb.specs.Numbers.{accepted_from, answer_number, expression, status, expression_number, status_number, said_number, read_number, verdict_number}
 use Rattle.ahb.specs.Answers.{said_by, truth_written, read_answer, verdicts_answer}
+
+-- the number of what was accepted, and a refusal's own, are the answer's
+pub answered : {A : Type 0} (least : ℕ) (number : A → ℕ) (P : A → Type 0) (r : ℕ) (a : Result A Refusal)
+    → ((x : A) → P x → r ≡ least + number x) → MatchResult a P (λ why. r ≡ number_of why) → r ≡ answer_number least number a
+answered least number P r (Ok x) f h = f x h
+answered least number P r (Err why) f h = h
+
+-- what is accepted among answers of a kind is of that kind
+pub accepted_among : {A : Type 0} (P : A → Type 0) (a : Result A Refusal) → Among P a → (x : A) → a ≡ Ok x → P x
+accepted_among P (Ok y) h x e = let q : y ≡ x = cc in subst P q h
+accepted_among P (Err why) h x e = let z : ◌≡◌ {A = ℕ} 0 1 = cc in absurd (omega arith)
 
 module _ {A B : Type 0} (f : A → B) where
   -- what is said otherwise has the number of what it says

@@ -2,22 +2,21 @@
 
 #![tactic(auto)]
 
-ghost use Rattle.std.specs.Prelude.{◌≡◌, ◌+◌, ◌≤◌, length};
-ghost use Rattle.citation.specs.Truths.{truth_number};
+ghost use Rattle.std.specs.Prelude.{◌≡◌, ◌+◌, ◌≤◌, length, MatchResult};
+ghost use Rattle.std.specs.Result.{ForOk};
+ghost use Rattle.refusal.specs.Refusals.{number_of};
 ghost use Rattle.grammar.specs.Outcome.{answer_of, written_of};
 ghost use Rattle.semantics.specs.Answers.{eval_answer};
-ghost use Rattle.ahb.specs.Numbers.{accepted_from, code_step, coded, answer_number, expression_number, status_number, read_number, presence_number, verdict_number};
+ghost use Rattle.ahb.specs.Numbers.{accepted_from, code_step, coded, status_number, read_number, presence_number, verdict_number};
+ghost use Rattle.ahb.specs.Sizes.{ShortStatus};
 ghost use Rattle.ahb.specs.Answers.{read_answer, verdicts_answer};
-ghost use Rattle.refusal.specs.Known.{Among};
-ghost use Rattle.ahb.specs.Sizes.{Short, ShortStatus, Few};
 
-use citation::Truth;
 use reader::{Expr, Status};
 use refusal::Refusal;
 use status::StatusKind;
 
 // The least accepted answer of 64 bits, and of 32.
-const ACCEPTED: u64 = 4294967296;
+pub const ACCEPTED: u64 = 4294967296;
 
 const PRESENT: u32 = 256;
 
@@ -40,25 +39,25 @@ fn accepted(code: u8, length: usize) -> u64
     ACCEPTED + (CODE_STEP * u64::from(code) + length as u64)
 }
 
-// The numbers of four answers: each has a bound and a definition of its own, so they stay four functions.
-fn expression_number(answer: Result<usize, Refusal>) -> u64
-    requires { Among Short answer }
-    ensures { result ≡ answer_number accepted_from expression_number answer }
+// An accepted status; a word alone has the length 0.
+fn stated(kind: StatusKind, length: Option<usize>) -> u64
+    requires { ShortStatus (kind, length) }
+    ensures { result ≡ accepted_from + status_number (kind, length) }
 {
-    match answer {
-        Err(why) => u64::from(u8::from(why)),
-        Ok(length) => accepted(EXPRESSION, length),
+    match length {
+        None => accepted(u8::from(kind), 0),
+        Some(length) => accepted(u8::from(kind), length),
     }
 }
 
-fn status_number(answer: Result<(StatusKind, Option<usize>), Refusal>) -> u64
-    requires { Among ShortStatus answer }
-    ensures { result ≡ answer_number accepted_from status_number answer }
+// An answer as one number: a refusal's own, or what is made of what was accepted.
+pub fn answer_number<T, F: FnOnce(T) -> u64>(answer: Result<T, Refusal>, accepted: F) -> u64
+    requires { ForOk answer (F.pre accepted) }
+    ensures { MatchResult answer (λ value. F.post accepted value result) (λ why. result ≡ number_of why) }
 {
     match answer {
         Err(why) => u64::from(u8::from(why)),
-        Ok((kind, None)) => accepted(u8::from(kind), 0),
-        Ok((kind, Some(length))) => accepted(u8::from(kind), length),
+        Ok(value) => accepted(value),
     }
 }
 
@@ -69,9 +68,14 @@ pub fn ahb_read(text: &[u8], mode: u8, out: &mut [u8]) -> u64
     ensures out_after { out.new ≡ written_of (read_answer mode text.now) out.old }
 {
     if mode == EXPRESSION_MODE {
-        return expression_number(Expr::parse(text, out));
+        return answer_number(
+            Expr::parse(text, out),
+            |length| accepted(EXPRESSION, length),
+        );
     }
-    status_number(Status::parse(text, out))
+    answer_number(Status::parse(text, out), |(kind, length)| {
+        stated(kind, length)
+    })
 }
 
 // The presence of a tree by its answers. Accepted: 256, and the number of the truth.
@@ -84,25 +88,6 @@ pub fn ahb_presence(tree: &[u8], answers: &[u8]) -> u32
     }
 }
 
-fn truth_number(answer: Result<Truth, Refusal>) -> u64
-    ensures { result ≡ answer_number accepted_from truth_number answer }
-{
-    match answer {
-        Err(why) => u64::from(u8::from(why)),
-        Ok(value) => ACCEPTED + u64::from(u8::from(value)),
-    }
-}
-
-fn violations_number(answer: Result<usize, Refusal>) -> u64
-    requires { Among Few answer }
-    ensures { result ≡ verdict_number answer }
-{
-    match answer {
-        Err(why) => u64::from(u8::from(why)),
-        Ok(count) => ACCEPTED + count as u64,
-    }
-}
-
 // Judges a value by a tree. Accepted: 2^32, and by mode 0 the number of the format truth, the list not looked
 // at; by any other mode the count of the violated citations, whose numbers then begin the list.
 pub fn ahb_verdicts(tree: &[u8], value: &[u8], mode: u8, list: &mut [u8]) -> u64
@@ -110,7 +95,12 @@ pub fn ahb_verdicts(tree: &[u8], value: &[u8], mode: u8, list: &mut [u8]) -> u64
     ensures list_after { list.new ≡ written_of (verdicts_answer mode tree.now value.now) list.old }
 {
     if mode == TRUTH_MODE {
-        return truth_number(verdicts::truth(tree, value));
+        return answer_number(verdicts::truth(tree, value), |truth| {
+            ACCEPTED + u64::from(u8::from(truth))
+        });
     }
-    violations_number(verdicts::violations(tree, value, list))
+    answer_number(
+        verdicts::violations(tree, value, list),
+        |count| ACCEPTED + count as u64,
+    )
 }

@@ -1,4 +1,5 @@
-// The static library for callers in C and Rust: the functions of `ahb` under their C names.
+// The static library for callers in C and Rust: the functions of `ahb` under their C names. A static library exports its own
+// functions alone, so they stand here again.
 
 #![tactic(auto)]
 

@@ -9,17 +9,12 @@
 use line::{Input, LINES_SIZE};
 use std::io::{Read, Write};
 
-// Nothing says that the input ends, so the turns are counted, up to a number that no run uses up.
 fn read_all<R: Read>(from: &mut R) -> Input {
     let mut input = Input::new();
-    let mut buf = [0u8; 65536];
-    for _ in 0..u64::MAX {
-        let n = console::read_some(from, &mut buf);
-        input.feed_all(&buf[..n]);
-        if n == 0 || input.is_whole() {
-            break;
-        }
-    }
+    console::each_piece(from, |piece| {
+        input.feed_all(piece);
+        !input.is_whole()
+    });
     input
 }
 

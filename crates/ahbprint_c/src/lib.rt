@@ -1,4 +1,4 @@
-// The static library of `ahbprint`, for the benchmark: its function under its C name.
+// The static library of `ahbprint`, for the benchmark: its function under its C name, again, as in `ahb_c`.
 
 #![tactic(auto)]
 

@@ -30,17 +30,12 @@ fn feed_all<W: Write>(input: &mut Input, bytes: &[u8], to: &mut W) {
     }
 }
 
-// Nothing says that the input ends, so the turns are counted, up to a number that no run uses up.
 fn answer_all<R: Read, W: Write>(from: &mut R, to: &mut W) {
     let mut input = Input::new();
-    let mut buf = [0u8; 65536];
-    for _ in 0..u64::MAX {
-        let n = console::read_some(from, &mut buf);
-        if n == 0 {
-            break;
-        }
-        feed_all(&mut input, &buf[..n], to);
-    }
+    console::each_piece(from, |piece| {
+        feed_all(&mut input, piece, to);
+        true
+    });
     end_run(&input, to);
 }
 

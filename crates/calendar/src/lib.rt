@@ -1,4 +1,5 @@
-// The proleptic Gregorian calendar: dates and times that exist, last Sundays, and the summer time of German legal time.
+// The proleptic Gregorian calendar: dates and times that exist, last Sundays, and the summer time of German legal time. A date's
+// parts are parameters of their own, as in the definitions: no function takes all of them alone.
 
 #![tactic(auto)]
 
@@ -65,7 +66,7 @@ pub fn last_sunday(year: u16, month: u8) -> u32
     u32::from(last_sunday_in_period(year % 400, month))
 }
 
-// MMDDhhmm as a number.
+// MMDDhhmm as a number: tuples in order would say otherwise where a part is over 99, which the definition allows.
 fn moment(month: u32, day: u32, hour: u32, minute: u32) -> u32
     requires { (month ≤ 255) × ((day ≤ 255) × ((hour ≤ 255) × (minute ≤ 255))) }
     ensures { result ≡ moment_of month day hour minute }

@@ -15,9 +15,6 @@ const LARGEST_NUMBER: u64 = 4294967295;
 
 const LARGEST_BOUND: u64 = 18446744073709551615;
 
-// A number up to this one and one more digit are no larger than the largest number.
-const SMALL_NUMBER: u64 = 429496728;
-
 // The value of a condition.
 #[derive(Clone, Copy, Debug, PartialEq, Eq)]
 pub enum Truth {
@@ -60,24 +57,11 @@ pub enum ConditionKind {
     Other,
 }
 
-// The number that digits write, as `text::digits_up_to` says it, with a test that is cheap while the number is small.
+// The number that digits write, if it is no larger than the largest.
 fn digits_of(text: &[u8]) -> Option<u64>
     ensures { result ≡ digits_up_to largest_number text.now }
 {
-    if text.is_empty() {
-        return None;
-    }
-    let mut n: u64 = 0;
-    for b in text {
-        if !text::is_digit(*b) {
-            return None;
-        }
-        if SMALL_NUMBER < n {
-            return text::digits_up_to(text, LARGEST_NUMBER);
-        }
-        n = n * 10 + u64::from(*b - b'0');
-    }
-    Some(n)
+    text::digits_up_to(text, LARGEST_NUMBER)
 }
 
 impl From<ConditionKind> for u8 {

@@ -15,12 +15,21 @@ pub fn read_some<R: Read>(input: &mut R, buf: &mut [u8]) -> usize
     input.read(buf).unwrap_or(0)
 }
 
+// Hands on what comes, piece by piece, up to the end of the input or to a piece for which `each` answers false.
+// Nothing says that the input ends, so the turns are counted, up to a number that no run uses up.
+pub fn each_piece<R: Read, F: FnMut(&[u8]) -> bool>(input: &mut R, mut each: F)
+    requires { F.IsAlwaysCallable each }
+{
+    let mut buf = [0u8; 65536];
+    for _ in 0..u64::MAX {
+        let n = read_some(input, &mut buf);
+        if n == 0 || !each(&buf[..n]) {
+            break;
+        }
+    }
+}
+
 // Writes all of the bytes. No clause says which were written: std says nothing of a write that fails.
 pub fn write_all<W: Write>(out: &mut W, bytes: &[u8]) {
     let _ = out.write_all(bytes);
-}
-
-// Writes a number in decimal.
-pub fn print_decimal<W: Write>(out: &mut W, n: u64) {
-    let _ = write!(out, "{n}");
 }

@@ -11,6 +11,7 @@ ghost use Rattle.std.specs.Prelude.{◌≤◌};
 use citation::{ConditionKind, Paket, Truth};
 use refusal::Refusal;
 use status::StatusKind;
+use std::fmt::Debug;
 use std::io::Write;
 
 // A write that fails is passed over, here and below.
@@ -49,6 +50,16 @@ fn say_refusal<W: Write>(out: &mut W, why: Refusal) {
     let _ = writeln!(out, " refused {code}");
 }
 
+// An answer by its name, or the refusal.
+fn say_answer<W: Write, T: Copy + Debug>(out: &mut W, answer: Result<T, Refusal>) {
+    match answer {
+        Err(why) => say_refusal(out, why),
+        Ok(said) => {
+            let _ = writeln!(out, " {said:?}");
+        }
+    }
+}
+
 fn yes_or_no(is: bool) -> &'static str {
     if is { "yes" } else { "no" }
 }
@@ -57,12 +68,7 @@ fn evaluate<W: Write>(out: &mut W, text: &[u8], value: &[u8]) {
     say(out, "evaluate");
     say_text(out, text);
     say_text(out, value);
-    match formats::evaluate(text, value) {
-        Err(why) => say_refusal(out, why),
-        Ok(verdict) => {
-            let _ = writeln!(out, " {verdict:?}");
-        }
-    }
+    say_answer(out, formats::evaluate(text, value));
 }
 
 fn registered<W: Write>(out: &mut W, text: &[u8]) {
@@ -80,12 +86,7 @@ fn registered<W: Write>(out: &mut W, text: &[u8]) {
 fn kind<W: Write>(out: &mut W, text: &[u8]) {
     say(out, "kind");
     say_text(out, text);
-    match ConditionKind::of(text) {
-        Err(why) => say_refusal(out, why),
-        Ok(kind) => {
-            let _ = writeln!(out, " {kind:?}");
-        }
-    }
+    say_answer(out, ConditionKind::of(text));
 }
 
 fn say_bounds<W: Write>(out: &mut W, low: u64, high: Option<u64>) {

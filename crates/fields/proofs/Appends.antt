@@ -20,7 +20,7 @@ pub nothing : (at : ℕ) (l : List ℕ) → Appended [] at l l at
 nothing at l = record { ends = omega arith; has = sym (append-nil (take at l)); rest = refl }
 
 -- a rest that stayed stays further on
-pub on : (p q : ℕ) (l₀ l₁ : List ℕ) → p ≤ q → drop p l₁ ≡ drop p l₀ → drop q l₁ ≡ drop q l₀
+pub on : {A : Type 0} (p q : ℕ) (l₀ l₁ : List A) → p ≤ q → drop p l₁ ≡ drop p l₀ → drop q l₁ ≡ drop q l₀
 on p q l₀ l₁ h e =
     let sum : p + (q - p) ≡ q = omega arith in
     ap (λ (x : ℕ). drop x l₁) (sym sum) ∙ sym (drop-drop (q - p) p l₁) ∙ ap (drop (q - p)) e ∙ drop-drop (q - p) p l₀ ∙ ap (λ (x : ℕ). drop x l₀) sum

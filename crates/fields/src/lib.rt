@@ -6,7 +6,7 @@ ghost use Rattle.std.specs.Prelude.{◌≡◌, [], ◌∷◌, ◌+◌, ◌≤◌
 ghost use Rattle.grammar.specs.Bytes.{field, two_bytes};
 ghost use Rattle.fields.specs.Appended.{Appended};
 
-// The number in two bytes, little-endian.
+// The number in two bytes, little-endian, spelt out as in the definition `field`.
 pub fn get16(s: &[u8], at: usize) -> usize
     requires { at + 1 < length s.now }
     ensures { (result ≡ field s.now at) × (result < 65536) }
@@ -14,7 +14,8 @@ pub fn get16(s: &[u8], at: usize) -> usize
     usize::from(s[at]) + 256 * usize::from(s[at + 1])
 }
 
-// One byte; the answer is the place after it, here and below.
+// One byte; the answer is the place after it, here and below. Buffer and place stay two parameters, here and in the crates
+// above: as one struct they were tried in printer, and printing the table took 1.7 times as long.
 pub fn put_byte(out: &mut [u8], at: usize, b: u8) -> usize
     requires { at + 1 ≤ length out.old }
     ensures { Appended (b ∷ []) at out.old out.new result }

@@ -279,7 +279,7 @@ fn either_boundary(
     )
 }
 
-// Times and day boundaries.
+// Times and day boundaries. The match of `judge` is cut in four, so that a function stays short.
 fn judge_times(id: u32, value: &[u8]) -> FormatVerdict
     ensures { result ≡ judged_in time_rules id value.now }
 {
@@ -363,7 +363,7 @@ fn judge(id: u32, value: &[u8]) -> FormatVerdict
     }
 }
 
-// The number of a text of three digits or of UB and a digit, 0 of any other.
+// The number of a text of three digits or of UB and a digit, 0 of any other: no row has it, so an `Option` would only be one more arm.
 fn id_of(text: &[u8]) -> u32
     ensures { result ≡ id_of text.now }
 {

@@ -10,6 +10,7 @@ pub mod Round
 pub mod LexPrint
 pub mod Reading
 pub mod Rows
+pub mod Kinds
 pub mod Bytes
 pub mod Shape
 pub mod Pack

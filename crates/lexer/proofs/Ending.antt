@@ -114,7 +114,7 @@ module _ (s : List ℕ) (at end : ℕ) (h : at ≤ length s) (u : is_utf8 (drop 
     white : (f : Found s at end) → leading true (decode (drop at s)) ≡ leading true (f.text ++ (cite_end ∷ drop 1 f.later))
     white f = ap (leading true) (f.split ∙ ap (λ (x : List ℕ). f.text ++ x) (closed f))
 
-    pub ends-blank : run_end true s at ≡ end → scan_in at [] (decode (drop at s)) ≡ halt EmptyCondition
+    pub ends-blank : end ≤ run_end true s at → scan_in at [] (decode (drop at s)) ≡ halt EmptyCondition
     ends-blank q =
         let f = found s at end u e in
         goes f ∙ ap (λ (x : Bool). cond x (halt EmptyCondition) (meets at (cited (encode f.text)) (scan (end + 1) (drop 1 f.later)))) (go f (blank f.text) refl)

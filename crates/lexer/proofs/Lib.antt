@@ -1,6 +1,5 @@
 pub mod Split
 pub mod Runs
-pub mod Copies
 pub mod Limits
 pub mod Ending
 pub mod Marks

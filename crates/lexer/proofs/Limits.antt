@@ -1,45 +1,30 @@
 -- The tests before parsing, on counts and on tokens. Assumes nothing.
 use Rattle.std.specs.Prelude.{Result, Ok, Err}
-use Prim.Native.Nat.{ℕ, suc, pred, ◌+◌, ◌≤◌, ◌<◌}
+use Prim.Native.Nat.{ℕ, suc, pred, ◌≤◌, ◌<◌}
 use mathlib.Core.Path.{◌≡◌, refl, sym, ap, ◌∙◌}
-use mathlib.Core.Bool.{Bool, true, false, cond, ◌&&◌}
+use mathlib.Core.Bool.{Bool, true, false, ◌&&◌}
 use mathlib.Core.List.{List, [], ◌∷◌, ◌++◌}
 use native.Mathlib.Omega.{arith}
-use native.Mathlib.Numerals.{add-one}
-use lib.Dec.{eqb, leb, ltb}
+use lib.Dec.{leb, ltb}
 use lib.ListN.{length}
-use borrow.Author.Tests.{eq-eqb, ne_eqb, le-leb, lt-leb, lt-ltb, le-ltb, ltb-true, ltb-false}
+use borrow.Author.Tests.{le-leb, lt-leb, lt-ltb, le-ltb, ltb-true, ltb-false}
 use Rattle.refusal.specs.Result.{unless, map_ok, then}
 use Rattle.refusal.specs.declared.Refusal.{Refusal}
 use Rattle.refusal.specs.declared.Refusal.TheVariants.{Empty, TooManyCitations, TooDeep}
-use Rattle.grammar.specs.Expr.{Op, And, Or, Xor, concat}
+use Rattle.grammar.specs.Expr as expr
+use Rattle.grammar.specs.Expr.{Op, concat}
 use Rattle.grammar.specs.Lex.{Tok, cited, op, opening, closing, lex, texts}
-use Rattle.grammar.specs.Rows.{op_kind}
 use Rattle.grammar.specs.Parse.{parse}
 use Rattle.grammar.specs.Reading.{citation_limit, cited_limit, open_limit, some_token, few, shallow, tree, expression}
-use Rattle.lexer.specs.Tokens.{open_kind, close_kind, kind_of, deeper, depth, counted, limited, tokenized, counts_limited}
+use Rattle.lexer.specs.Tokens.{sign_kind, kind_of, deeper, depth, counted, limited, tokenized, counts_limited}
 use Rattle.lexer.specs.declared.Count.{Count}
+use Rattle.lexer.specs.declared.TokenKind.{TokenKind}
+use Rattle.lexer.specs.declared.TokenKind.TheVariants.{Opening, Closing}
 
-module _ (d k : ℕ) where
-  pub deeper-over : open_limit < d → d ≡ deeper d k
-  deeper-over h = rw (lt-ltb open_limit d h)
-
-  pub deeper_open : d ≤ open_limit → k ≡ open_kind → d + 1 ≡ deeper d k
-  deeper_open h e = rw (le-ltb open_limit d h, eq-eqb k open_kind e) (add-one d)
-
-  pub deeper_close : d ≤ open_limit → (k ≡ open_kind → ⊥) → k ≡ close_kind → pred d ≡ deeper d k
-  deeper_close h n e = rw (le-ltb open_limit d h, ne_eqb k open_kind n, eq-eqb k close_kind e)
-
-  pub deeper_other : d ≤ open_limit → (k ≡ open_kind → ⊥) → (k ≡ close_kind → ⊥) → d ≡ deeper d k
-  deeper_other h n e = rw (le-ltb open_limit d h, ne_eqb k open_kind n, ne_eqb k close_kind e)
-
-  -- a token that is no parenthesis
-  pub deeper-same : (k ≡ open_kind → ⊥) → (k ≡ close_kind → ⊥) → deeper d k ≡ d
-  deeper-same n e = go (ltb open_limit d)
-    where
-      go : (b : Bool) → cond b d (cond (eqb k open_kind) (suc d) (cond (eqb k close_kind) (pred d) d)) ≡ d
-      go true = refl
-      go false = rw (ne_eqb k open_kind n, ne_eqb k close_kind e)
+pub deeper-over : (d : ℕ) (k : TokenKind) → open_limit < d → d ≡ deeper d k
+deeper-over d Opening h = rw (lt-ltb open_limit d h)
+deeper-over d Closing h = rw (lt-ltb open_limit d h)
+deeper-over d k h = refl
 
 pub depth_snoc : (d : ℕ) (a : List Tok) (t : Tok) → depth d (a ++ (t ∷ [])) ≡ deeper (depth d a) (kind_of t)
 unfolding depth
@@ -56,22 +41,22 @@ unfolding depth
 depth_by d e t ts h = ap (λ (x : ℕ). depth x ts) h
 
 plain_op : (d : ℕ) (o : Op) → deeper d (kind_of (op o)) ≡ d
-unfolding kind_of op_kind
-plain_op d And = deeper-same d 2 (λ e. omega arith) (λ e. omega arith)
-plain_op d Or = deeper-same d 3 (λ e. omega arith) (λ e. omega arith)
-plain_op d Xor = deeper-same d 4 (λ e. omega arith) (λ e. omega arith)
+unfolding kind_of sign_kind
+plain_op d expr.And = refl
+plain_op d expr.Or = refl
+plain_op d expr.Xor = refl
 
 plain_cite : (d : ℕ) (t : List ℕ) → deeper d (kind_of (cited t)) ≡ d
 unfolding kind_of
-plain_cite d t = deeper-same d 0 (λ e. omega arith) (λ e. omega arith)
+plain_cite d t = refl
 
 opens : (d : ℕ) → d ≤ open_limit → deeper d (kind_of opening) ≡ suc d
 unfolding kind_of
-opens d h = sym (deeper_open d open_kind h refl) ∙ add-one d
+opens d h = rw (le-ltb open_limit d h)
 
 shuts : (d : ℕ) → d ≤ open_limit → deeper d (kind_of closing) ≡ pred d
 unfolding kind_of
-shuts d h = sym (deeper_close d close_kind h (λ e. omega arith) refl)
+shuts d h = rw (le-ltb open_limit d h)
 
 depth_none : (d : ℕ) → depth d [] ≡ d
 unfolding depth

@@ -4,17 +4,19 @@ use mathlib.Core.Path.{◌≡◌, refl, sym, ap, ◌∙◌}
 use mathlib.Core.Bool.{true}
 use mathlib.Core.List.{List, [], ◌∷◌}
 use native.Mathlib.Omega.{arith}
-use lib.ListN.{length, drop, get_or, length-drop}
+use lib.ListN.{length, drop, length-drop}
 use Rattle.refusal.specs.declared.Refusal.{Refusal}
 use Rattle.refusal.specs.declared.Refusal.TheVariants.{Stray}
 use Rattle.utf8.specs.Utf8.{is_utf8, decode, step_at}
 use Rattle.utf8.specs.declared.Step.{Step}
 use Rattle.utf8.specs.declared.Step.TheVariants.{Char, Bad, End}
 use Rattle.utf8.proofs.Laws.{char_at, decode-at, step_bad, step_end}
-use Rattle.grammar.specs.Expr.{And, Or, Xor}
 use Rattle.grammar.specs.Lex.{Tok, op, opening, closing, Part, bracket, sign, left, right, space, stray, part, texts}
-use Rattle.grammar.specs.Rows.{cite_kind, op_kind}
-use Rattle.lexer.specs.Tokens.{kind_of, part_number}
+use Rattle.lexer.specs.Tokens.{kind_of, meaning}
+use Rattle.lexer.specs.declared.TokenKind.{TokenKind}
+use Rattle.lexer.specs.declared.Meaning.{Meaning}
+use Rattle.lexer.specs.declared.Meaning.TheVariants as meanings
+use Rattle.lexer.specs.declared.Meaning.TheVariants.{Bracket, Mark, White}
 use Rattle.lexer.specs.Scan.{Scan, halt, meets, outer_scan, scan, scan_in}
 use Rattle.lexer.specs.State.{Ahead, Closing, Marked, Cites}
 use Rattle.lexer.proofs.Split.{step_width}
@@ -30,36 +32,35 @@ no_step s i h u n = go (step_at s i) refl
         let z : ◌≡◌ {A = ℕ} 0 1 = cc in omega arith
     go End e = omega (arith, ap length (step_end (drop i s) e), length-drop i s)
 
--- a number's part
-abbrev part_at : ℕ → Part
-part_at n = get_or (bracket ∷ stray ∷ sign And ∷ sign Or ∷ sign Xor ∷ left ∷ right ∷ space ∷ []) n stray
+-- the part behind a meaning
+by_bracket : (p : Part) → meaning p ≡ Bracket → p ≡ bracket
+unfolding meaning
+by_bracket bracket e = refl
+by_bracket p e = cc
 
-part-at : (p : Part) → part_at (part_number p) ≡ p
-unfolding part_number op_kind
-part-at bracket = refl
-part-at (sign And) = refl
-part-at (sign Or) = refl
-part-at (sign Xor) = refl
-part-at left = refl
-part-at right = refl
-part-at space = refl
-part-at stray = refl
+by_space : (p : Part) → meaning p ≡ White → p ≡ space
+unfolding meaning
+by_space space e = refl
+by_space p e = cc
+
+by_stray : (p : Part) → meaning p ≡ meanings.Stray → p ≡ stray
+unfolding meaning
+by_stray stray e = refl
+by_stray p e = cc
 
 -- a part that is a token by itself
-record Plain (p : Part) : Type 0 where
+record Plain (p : Part) (k : TokenKind) : Type 0 where
   pub tok : Tok
-  pub kind : kind_of tok ≡ part_number p
+  pub kind : kind_of tok ≡ k
   pub plain : texts (tok ∷ []) ≡ []
   pub goes : (at : ℕ) (x y : Scan) → outer_scan p at x y ≡ meets at tok y
 
-plain_part : (p : Part) → (part_number p ≡ cite_kind → ⊥) → (part_number p ≡ 7 → ⊥) → (part_number p ≡ 8 → ⊥) → Plain p
-unfolding part_number kind_of texts outer_scan
-plain_part bracket h k l = absurd (h refl)
-plain_part (sign o) h k l = record { tok = op o; kind = refl; plain = refl; goes = λ at x y. refl }
-plain_part left h k l = record { tok = opening; kind = refl; plain = refl; goes = λ at x y. refl }
-plain_part right h k l = record { tok = closing; kind = refl; plain = refl; goes = λ at x y. refl }
-plain_part space h k l = absurd (k refl)
-plain_part stray h k l = absurd (l refl)
+plain_part : (p : Part) (k : TokenKind) → meaning p ≡ Mark k → Plain p k
+unfolding meaning kind_of texts outer_scan
+plain_part (sign o) k e = record { tok = op o; kind = cc; plain = refl; goes = λ at x y. refl }
+plain_part left k e = record { tok = opening; kind = cc; plain = refl; goes = λ at x y. refl }
+plain_part right k e = record { tok = closing; kind = cc; plain = refl; goes = λ at x y. refl }
+plain_part p k e = let z : ◌≡◌ {A = ℕ} 0 1 = cc in absurd (omega arith)
 
 scan_bracket : (at : ℕ) (x y : Scan) → outer_scan bracket at x y ≡ x
 unfolding outer_scan
@@ -78,33 +79,32 @@ scan_step : (s : List ℕ) (at c w : ℕ) → at ≤ length s → step_at s at �
 unfolding scan
 scan_step s at c w h e = rw (decode-at s at c w e, step_width s at c w h e)
 
--- a character at `at` of w bytes, of which `part_of` says k
-module _ (s : List ℕ) (at c w k : ℕ) (h : at < length s) (u : is_utf8 (drop at s) ≡ true) (e : step_at s at ≡ Char c w) where
+-- a character at `at` of w bytes, of which `part_of` then says m
+module _ (s : List ℕ) (at c w : ℕ) (h : at < length s) (u : is_utf8 (drop at s) ≡ true) (e : step_at s at ≡ Char c w) where
   pub step_ahead : Ahead s at (at + w)
   step_ahead =
       let d = char_at s at c w (omega arith) e in
       record { later = omega (arith, d.2); room = d.3; well = sym d.0 ∙ u }
 
-  module _ (r : k ≡ part_number (part c)) where
-    goes : (n : ℕ) → k ≡ n → scan at (decode (drop at s)) ≡ outer_scan (part_at n) at (scan_in (at + w) [] (decode (drop (at + w) s))) (scan (at + w) (decode (drop (at + w) s)))
-    goes n l =
-        let p : part c ≡ part_at n = sym (part-at (part c)) ∙ ap part_at (sym r ∙ l) in
-        scan_step s at c w (omega arith) e ∙ ap (λ (x : Part). outer_scan x at (scan_in (at + w) [] (decode (drop (at + w) s))) (scan (at + w) (decode (drop (at + w) s)))) p
+  module _ (m : Meaning) (r : m ≡ meaning (part c)) where
+    goes : (p : Part) → part c ≡ p → scan at (decode (drop at s)) ≡ outer_scan p at (scan_in (at + w) [] (decode (drop (at + w) s))) (scan (at + w) (decode (drop (at + w) s)))
+    goes p l =
+        scan_step s at c w (omega arith) e ∙ ap (λ (x : Part). outer_scan x at (scan_in (at + w) [] (decode (drop (at + w) s))) (scan (at + w) (decode (drop (at + w) s)))) l
 
-    pub token_space : k ≡ 7 → Ahead s at (at + w) × (scan at (decode (drop at s)) ≡ scan (at + w) (decode (drop (at + w) s)))
-    token_space l = (step_ahead, goes 7 l ∙ scan_space _ _ _)
+    pub token_space : m ≡ White → Ahead s at (at + w) × (scan at (decode (drop at s)) ≡ scan (at + w) (decode (drop (at + w) s)))
+    token_space l = (step_ahead, goes space (by_space (part c) (sym r ∙ l)) ∙ scan_space _ _ _)
 
-    pub token_stray : k ≡ 8 → scan at (decode (drop at s)) ≡ halt Stray
-    token_stray l = goes 8 l ∙ scan_stray _ _ _
+    pub token_stray : m ≡ meanings.Stray → scan at (decode (drop at s)) ≡ halt Stray
+    token_stray l = goes stray (by_stray (part c) (sym r ∙ l)) ∙ scan_stray _ _ _
 
-    pub token_mark : (k ≡ cite_kind → ⊥) → (k ≡ 7 → ⊥) → (k ≡ 8 → ⊥) → Marked s at k (at + w)
-    token_mark l m n =
-        let p = plain_part (part c) (λ q. l (r ∙ q)) (λ q. m (r ∙ q)) (λ q. n (r ∙ q)) in
-        record { tok = p.tok; kind = p.kind ∙ sym r; plain = p.plain; ahead = step_ahead; goes = scan_step s at c w (omega arith) e ∙ p.goes _ _ _ }
+    pub token_mark : (k : TokenKind) → m ≡ Mark k → Marked s at k (at + w)
+    token_mark k l =
+        let p = plain_part (part c) k (sym r ∙ l) in
+        record { tok = p.tok; kind = p.kind; plain = p.plain; ahead = step_ahead; goes = scan_step s at c w (omega arith) e ∙ p.goes _ _ _ }
 
-    pub token_never : k ≡ cite_kind → (why : Refusal) → scan_in (at + w) [] (decode (drop (at + w) s)) ≡ halt why → scan at (decode (drop at s)) ≡ halt why
-    token_never l why g = goes 0 l ∙ scan_bracket _ _ _ ∙ g
+    pub token_never : m ≡ Bracket → (why : Refusal) → scan_in (at + w) [] (decode (drop (at + w) s)) ≡ halt why → scan at (decode (drop at s)) ≡ halt why
+    token_never l why g = goes bracket (by_bracket (part c) (sym r ∙ l)) ∙ scan_bracket _ _ _ ∙ g
 
-    pub token_cite : k ≡ cite_kind → (end : ℕ) → Closing s (at + w) end → Cites s at (at + w) end
+    pub token_cite : m ≡ Bracket → (end : ℕ) → Closing s (at + w) end → Cites s at (at + w) end
     token_cite l end g =
-        record { later = step_ahead.later; order = g.order; ahead = g.ahead; goes = goes 0 l ∙ scan_bracket _ _ _ ∙ g.goes }
+        record { later = step_ahead.later; order = g.order; ahead = g.ahead; goes = goes bracket (by_bracket (part c) (sym r ∙ l)) ∙ scan_bracket _ _ _ ∙ g.goes }

@@ -1,13 +1,13 @@
 -- Runs of characters, and where they end. Assumes nothing.
-use Prim.Native.Nat.{ℕ, suc, ◌+◌, ◌/◌, ◌%◌, ◌≤◌, ◌<◌}
+use Prim.Native.Nat.{ℕ, zero, suc, ◌+◌, ◌-◌, ◌/◌, ◌%◌, ◌≤◌, ◌<◌}
 use mathlib.Core.Path.{◌≡◌, refl, sym, ap, ◌∙◌}
-use mathlib.Core.Bool.{Bool, true, false, not, beq}
+use mathlib.Core.Bool.{Bool, true, false, not}
 use mathlib.Core.List.{List, [], ◌∷◌, ◌++◌}
 use native.Mathlib.Omega.{arith}
 use native.Mathlib.Numerals.{add-one}
 use lib.Dec.{eqb, ltb}
-use lib.ListN.{length, drop, get_or, length-drop, drop_of_length-le}
-use lib.Seq.{drop-cons}
+use lib.ListN.{length, take, drop, get_or, replicate, length-drop, drop_of_length-le}
+use lib.Seq.{drop-cons, drop-drop}
 use borrow.Author.Tests.{eq-eqb, ne_eqb, eqb-true, eqb-false, ltb-false}
 use Rattle.laws.specs.Tests.{agree, cond_both}
 use Rattle.utf8.specs.Utf8.{decode, encode, encode_char, step_at}
@@ -106,27 +106,57 @@ char_within s i c k e =
     let d = step_char (drop i s) c k e in
     (omega (arith, d.2, d.3, length-drop i s), d.2, omega (arith, d.2, d.3, length-drop i s))
 
--- equality of tests
-pub agree_same : (a b : Bool) → not (beq a b) ≡ false → agree a b ≡ true
-agree_same true true h = refl
-agree_same true false h = sym h
-agree_same false true h = sym h
-agree_same false false h = refl
-
-pub agree_other : (a b : Bool) → not (beq a b) ≡ true → agree a b ≡ false
-agree_other true true h = sym h
-agree_other true false h = refl
-agree_other false true h = refl
-agree_other false false h = sym h
-
--- the white space from `i` on, by an ASCII byte there
+-- the run from `i` on, by an ASCII byte there
 module _ (s : List ℕ) (i : ℕ) (h : i < length s) where
   pub space_on : get_or s i 0 ≡ blank_char → run_end true s (i + 1) ≡ run_end true s i
   unfolding is_white
   space_on e = run_on true s i (get_or s i 0) 1 (omega arith) (ascii-at s i h (omega arith)) (ap (λ (x : ℕ). agree (is_white x) true) e)
 
+  pub visible_on : 0x20 < get_or s i 0 → get_or s i 0 < 0x80 → run_end false s (i + 1) ≡ run_end false s i
+  visible_on l m = run_on false s i (get_or s i 0) 1 (omega arith) (ascii-at s i h m) (ap (λ (x : Bool). agree x false) (white_visible (get_or s i 0) l m))
+
   pub visible_off : 0x20 < get_or s i 0 → get_or s i 0 < 0x80 → i ≡ run_end true s i
   visible_off l m = run_off true s i (get_or s i 0) 1 (ascii-at s i h m) (ap (λ (x : Bool). agree x true) (white_visible (get_or s i 0) l m))
+
+-- spaces one after another
+spaces_on : (s : List ℕ) (n i : ℕ) → i + n ≤ length s → take n (drop i s) ≡ replicate n blank_char → run_end true s (i + n) ≡ run_end true s i
+spaces_on s zero i h e = ap (run_end true s) (omega arith)
+spaces_on s (suc n) i h e =
+    let l : i < length s = omega arith in
+    let c : get_or s i 0 ∷ take n (drop (suc i) s) ≡ blank_char ∷ replicate n blank_char = sym (ap (take (suc n)) (drop-cons s i 0 l)) ∙ e in
+    let g : get_or s i 0 ≡ blank_char = cc in
+    let t : take n (drop (suc i) s) ≡ replicate n blank_char = cc in
+    let a : i + suc n ≡ suc i + n = omega arith in
+    ap (run_end true s) a ∙ spaces_on s n (suc i) (omega arith) t ∙ ap (run_end true s) (sym (add-one i)) ∙ space_on s i l g
+
+-- what is left of a text after spaces from `at` on
+pub record Past (s : List ℕ) (at : ℕ) (rest : List ℕ) : Type 0 where
+  pub place : ℕ
+  pub room : place ≤ length s
+  pub is : rest ≡ drop place s
+  pub same : run_end true s place ≡ run_end true s at
+
+-- at first all from `at` on
+pub past_none : (s : List ℕ) (at : ℕ) (rest : List ℕ) → at ≤ length s → rest ≡ drop at s → Past s at rest
+past_none s at rest h e = record { place = at; room = h; is = e; same = refl }
+
+-- n spaces more
+pub past_more : (s : List ℕ) (at : ℕ) (rest : List ℕ) → Past s at rest → (n : ℕ) → n ≤ length rest → take n rest ≡ replicate n blank_char → Past s at (drop n rest)
+past_more s at rest p n h e =
+    let l : length rest ≡ length s - p.place = ap length p.is ∙ length-drop p.place s in
+    record {
+      place = p.place + n;
+      room = omega (arith, p.room);
+      is = ap (drop n) p.is ∙ drop-drop n p.place s;
+      same = spaces_on s n p.place (omega (arith, p.room)) (sym (ap (take n) p.is) ∙ e) ∙ p.same;
+    }
+
+-- where that stands
+pub past_place : (s : List ℕ) (at : ℕ) (rest : List ℕ) → Past s at rest → (length rest ≤ length s) × (run_end true s (length s - length rest) ≡ run_end true s at)
+past_place s at rest p =
+    let l : length rest ≡ length s - p.place = ap length p.is ∙ length-drop p.place s in
+    let q : length s - length rest ≡ p.place = omega (arith, p.room) in
+    (omega arith, ap (run_end true s) q ∙ p.same)
 
 -- the two parts are the whole
 pub upto_from : (x : ℕ) (cs : List ℕ) → cs ≡ up_to x cs ++ from_on x cs

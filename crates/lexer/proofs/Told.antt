@@ -13,6 +13,7 @@ use borrow.Author.Tests.{ne_eqb}
 use Rattle.refusal.specs.Result.{unless_ok, err≢ok, map_ok, then}
 use Rattle.refusal.specs.declared.Refusal.{Refusal}
 use Rattle.refusal.specs.declared.Refusal.TheVariants.{NoStatusWord, Empty, TooManyCitations, TooDeep}
+use Rattle.text.specs.Bytes.{over}
 use Rattle.utf8.specs.Utf8.{is_utf8, decode, encode}
 use Rattle.utf8.specs.White.{is_white}
 use Rattle.utf8.proofs.Sound.{utf8_sound}
@@ -26,10 +27,11 @@ use Rattle.grammar.proofs.Reading.{few_says}
 use Rattle.grammar.specs.Status.{ended, words_from, words, spaced, joined, alone, stated, after_word, of_words}
 use Rattle.grammar.proofs.StatusLaws.{rest_size, rest_scalars}
 use Rattle.lexer.specs.Runs.{leading, trailing, run_end, first_word}
-use Rattle.lexer.specs.Tokens.{kinds_of, counted, limited, tokenized, cuts, over}
+use Rattle.lexer.specs.Tokens.{kinds_of, counted, limited, tokenized, cuts}
 use Rattle.lexer.specs.Scan.{scanned, places_in, scan_lex, scanned-all}
 use Rattle.lexer.specs.State.{reading}
 use Rattle.lexer.specs.declared.Lexed.{Lexed}
+use Rattle.lexer.specs.declared.TokenKind.{TokenKind}
 use Rattle.lexer.specs.declared.Place.{Place}
 use Rattle.lexer.proofs.Split.{encode_append, size_cons, char_size}
 use Rattle.lexer.proofs.Runs.{trail_stop, run_starts}
@@ -75,7 +77,7 @@ ready cs ts h = go (lex cs) refl h
         }
 
 -- what counts tell, where as many places have room as there can be citations
-pub record Told (s kinds : List ℕ) (places : List Place) (n m b : ℕ) : Type 0 where
+pub record Told (s : List ℕ) (kinds : List TokenKind) (places : List Place) (n m b : ℕ) : Type 0 where
   pub toks : List Tok
   pub is : tokenized (decode s) ≡ Ok toks
   pub ready : Ready (decode s) toks
@@ -103,7 +105,7 @@ behind (Ok ts) n m b e =
     record { toks = ts; is = refl; tokens = ap (λ (y : Lexed). y.tokens) x; cites = ap (λ (y : Lexed). y.cites) x; bytes = ap (λ (y : Lexed). y.bytes) x }
 behind (Err k) n m b e = absurd (err≢ok (sym e))
 
-pub told : (s kinds₀ : List ℕ) (places₀ : List Place) (kinds : List ℕ) (places : List Place) (n m b : ℕ) → is_utf8 s ≡ true → length places ≡ length places₀ → (m ≤ citation_limit → m ≤ length kinds → m ≤ length places)
+pub told : (s : List ℕ) (kinds₀ : List TokenKind) (places₀ : List Place) (kinds : List TokenKind) (places : List Place) (n m b : ℕ) → is_utf8 s ≡ true → length places ≡ length places₀ → (m ≤ citation_limit → m ≤ length kinds → m ≤ length places)
     → Answers s kinds₀ places₀ kinds places (Ok (record { tokens = n; cites = m; bytes = b })) → Told s kinds places n m b
 told s kinds₀ places₀ kinds places n m b u same l a =
     let c = behind (tokenized (decode s)) n m b a.0 in

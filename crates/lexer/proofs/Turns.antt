@@ -5,26 +5,33 @@ use mathlib.Core.Path.{◌≡◌, refl, sym, ap, ◌∙◌, subst}
 use mathlib.Core.Bool.{true}
 use mathlib.Core.List.{List, [], ◌∷◌, ◌++◌, append-nil}
 use native.Mathlib.Omega.{arith}
+use native.Mathlib.Numerals.{add-one}
 use lib.ListN.{length, take, drop, set, length-append, length-take, length-drop, length-set, take-append-drop, drop_of_length-le}
 use native.Mathlib.Decide.{dec_lt}
-use lib.Seq.{append_snoc, take_all, take-nil, take-append-le, length-take-le, set_out, drop-set-lt}
+use lib.Seq.{append_snoc, take-suc-set, take_all, take-nil, take-append-le, length-take-le, set_out, drop-set-lt}
 use Rattle.refusal.specs.Result.{map_ok, then}
 use Rattle.refusal.specs.declared.Refusal.{Refusal}
+use Rattle.text.specs.Bytes.{over}
 use Rattle.utf8.specs.Utf8.{is_utf8, decode}
 use Rattle.grammar.specs.Expr.{concat}
 use Rattle.grammar.specs.Lex.{Tok, cited, op, opening, closing, also, lex, texts}
-use Rattle.grammar.specs.Rows.{cite_kind}
 use Rattle.grammar.specs.LexPrint.{before}
 use Rattle.grammar.proofs.Bounds.{concat_append}
-use Rattle.lexer.specs.Tokens.{kind_of, kinds_of, deeper, depth, counted, limited, tokenized, counts_limited, placed, over}
+use Rattle.fields.proofs.Appends.{on}
+use Rattle.lexer.specs.Tokens.{kind_of, kinds_of, deeper, depth, counted, limited, tokenized, counts_limited, placed}
 use Rattle.lexer.specs.Scan.{Scan, halt, meets, scan, scanned, places_in, outcome, scan_lex}
 use Rattle.lexer.specs.State.{Ahead, Marked, Cites, reading, State, Rests, Turned, Written, Ends}
 use Rattle.lexer.specs.declared.Count.{Count}
+use Rattle.lexer.specs.declared.TokenKind.{TokenKind}
+use Rattle.lexer.specs.declared.TokenKind.TheVariants.{Citation}
 use Rattle.lexer.specs.declared.Place.{Place}
 use Rattle.lexer.specs.declared.Lexed.{Lexed}
 use Rattle.lexer.proofs.Split.{none_left}
-use Rattle.lexer.proofs.Copies.{grown, on}
-use Rattle.lexer.proofs.Limits.{depth_snoc, deeper-same, counts_limited_lem}
+use Rattle.lexer.proofs.Limits.{depth_snoc, counts_limited_lem}
+
+-- one value more
+grown : {A : Type 0} (l : List A) (n : ℕ) (v : A) → n < length l → take (n + 1) (set l n v) ≡ take n l ++ (v ∷ [])
+grown l n v h = ap (λ (m : ℕ). take m (set l n v)) (add-one n) ∙ take-suc-set l n v h
 
 before_refused : (a : List Tok) (k : Refusal) → before a (Err k) ≡ Err k
 unfolding before map_ok
@@ -62,11 +69,11 @@ kinds-length (t ∷ ts) = ap suc (kinds-length ts)
 kinds_snoc : (a : List Tok) (t : Tok) → kinds_of (a ++ (t ∷ [])) ≡ kinds_of a ++ (kind_of t ∷ [])
 unfolding kinds_of
 kinds_snoc [] t = refl
-kinds_snoc (u ∷ a) t = ap (λ (x : List ℕ). kind_of u ∷ x) (kinds_snoc a t)
+kinds_snoc (u ∷ a) t = ap (λ (x : List TokenKind). kind_of u ∷ x) (kinds_snoc a t)
 
 cites-depth : (d : ℕ) (t : List ℕ) → deeper d (kind_of (cited t)) ≡ d
 unfolding kind_of
-cites-depth d t = deeper-same d cite_kind (λ e. omega arith) (λ e. omega arith)
+cites-depth d t = refl
 
 one_text : (t : List ℕ) → length (concat (t ∷ [])) ≡ length t
 unfolding concat
@@ -128,7 +135,7 @@ last_none : (at : ℕ) → (scanned (scan at []) ≡ []) × (places_in (scan at 
 unfolding scan scanned places_in outcome
 last_none at = (refl, refl, refl)
 
-pub state_start : (s kinds : List ℕ) (places : List Place) → is_utf8 s ≡ true → State s kinds places (record { at = 0; tokens = 0; cites = 0; bytes = 0; depth = 0 })
+pub state_start : (s : List ℕ) (kinds : List TokenKind) (places : List Place) → is_utf8 s ≡ true → State s kinds places (record { at = 0; tokens = 0; cites = 0; bytes = 0; depth = 0 })
 unfolding texts concat kinds_of depth
 state_start s kinds places u = record {
   done = [];
@@ -151,14 +158,14 @@ state_start s kinds places u = record {
 }
 
 -- what one turn leaves as it was
-module _ (kinds : List ℕ) (places : List Place) (p : Count) where
+module _ (kinds : List TokenKind) (places : List Place) (p : Count) where
   pub rests_space : (at depth : ℕ) → Rests kinds places kinds places p (record { at = at; tokens = p.tokens; cites = p.cites; bytes = p.bytes; depth = depth })
   rests_space at depth = record { tokens = omega arith; cites = omega arith; kinds_rest = refl; places_rest = refl }
 
-  pub rests_mark : (k at depth : ℕ) → Rests kinds places (set kinds p.tokens k) places p (record { at = at; tokens = p.tokens + 1; cites = p.cites; bytes = p.bytes; depth = depth })
+  pub rests_mark : (k : TokenKind) (at depth : ℕ) → Rests kinds places (set kinds p.tokens k) places p (record { at = at; tokens = p.tokens + 1; cites = p.cites; bytes = p.bytes; depth = depth })
   rests_mark k at depth = record { tokens = omega arith; cites = omega arith; kinds_rest = drop-set-lt (p.tokens + 1) kinds p.tokens k (omega arith); places_rest = refl }
 
-  pub rests_cite : (k : ℕ) (v : Place) (at bytes depth : ℕ) (places' : List Place) → places' ≡ set places p.cites v
+  pub rests_cite : (k : TokenKind) (v : Place) (at bytes depth : ℕ) (places' : List Place) → places' ≡ set places p.cites v
       → Rests kinds places (set kinds p.tokens k) places' p (record { at = at; tokens = p.tokens + 1; cites = p.cites + 1; bytes = bytes; depth = depth })
   rests_cite k v at bytes depth places' e = record {
     tokens = omega arith;
@@ -168,12 +175,12 @@ module _ (kinds : List ℕ) (places : List Place) (p : Count) where
   }
 
 -- what further turns leave as it was
-pub rests_on : (kinds₀ : List ℕ) (places₀ : List Place) (kinds : List ℕ) (places : List Place) (kinds' : List ℕ) (places' : List Place) (p q : Count) → Rests kinds places kinds' places' p q → drop p.tokens kinds ≡ drop p.tokens kinds₀ → drop p.cites places ≡ drop p.cites places₀
+pub rests_on : (kinds₀ : List TokenKind) (places₀ : List Place) (kinds : List TokenKind) (places : List Place) (kinds' : List TokenKind) (places' : List Place) (p q : Count) → Rests kinds places kinds' places' p q → drop p.tokens kinds ≡ drop p.tokens kinds₀ → drop p.cites places ≡ drop p.cites places₀
     → (drop q.tokens kinds' ≡ drop q.tokens kinds₀) × (drop q.cites places' ≡ drop q.cites places₀)
 rests_on kinds₀ places₀ kinds places kinds' places' p q r a b =
     (r.kinds_rest ∙ on p.tokens q.tokens kinds₀ kinds r.tokens a, r.places_rest ∙ on p.cites q.cites places₀ places r.cites b)
 
-module _ {s kinds : List ℕ} {places : List Place} {p : Count} (h : State s kinds places p) where
+module _ {s : List ℕ} {kinds : List TokenKind} {places : List Place} {p : Count} (h : State s kinds places p) where
   pub state_space : (q : ℕ) → Ahead s p.at q → scan p.at (decode (drop p.at s)) ≡ scan q (decode (drop q s))
       → State s kinds places (record { at = q; tokens = p.tokens; cites = p.cites; bytes = p.bytes; depth = p.depth })
   state_space q a e = record {
@@ -196,7 +203,7 @@ module _ {s kinds : List ℕ} {places : List Place} {p : Count} (h : State s kin
     held = h.held;
   }
 
-  pub state_mark : (k q d : ℕ) → Marked s p.at k q → p.tokens < length kinds → d ≡ deeper p.depth k
+  pub state_mark : (k : TokenKind) (q d : ℕ) → Marked s p.at k q → p.tokens < length kinds → d ≡ deeper p.depth k
       → State s (set kinds p.tokens k) places (record { at = q; tokens = p.tokens + 1; cites = p.cites; bytes = p.bytes; depth = d })
   state_mark k q d m l r =
       let a = m.ahead in
@@ -219,14 +226,14 @@ module _ {s kinds : List ℕ} {places : List Place} {p : Count} (h : State s kin
         ends = h.ends ∙ ap (λ x. before h.done (outcome x)) m.goes ∙ meets-outcome h.done p.at m.tok (scan q (decode (drop q s)));
         shown =
             grown kinds p.tokens k l
-            ∙ ap (λ (x : List ℕ). x ++ (k ∷ [])) h.shown
-            ∙ ap (λ (j : ℕ). kinds_of h.done ++ (j ∷ [])) (sym m.kind)
+            ∙ ap (λ (x : List TokenKind). x ++ (k ∷ [])) h.shown
+            ∙ ap (λ (j : TokenKind). kinds_of h.done ++ (j ∷ [])) (sym m.kind)
             ∙ sym (kinds_snoc h.done m.tok);
         held = h.held;
       }
 
   state_cite : (from end : ℕ) (v : Place) → Cites s p.at from end → p.tokens < length kinds → v ≡ placed from (end - from)
-      → State s (set kinds p.tokens cite_kind) (set places p.cites v) (record { at = end + 1; tokens = p.tokens + 1; cites = p.cites + 1; bytes = p.bytes + (end - from); depth = p.depth })
+      → State s (set kinds p.tokens Citation) (set places p.cites v) (record { at = end + 1; tokens = p.tokens + 1; cites = p.cites + 1; bytes = p.bytes + (end - from); depth = p.depth })
   unfolding kind_of
   state_cite from end v m l k =
       let a = m.ahead in
@@ -251,17 +258,17 @@ module _ {s kinds : List ℕ} {places : List Place} {p : Count} (h : State s kin
         goes = h.goes ∙ ap (λ x. h.done ++ scanned x) m.goes ∙ meets_tokens h.done from (cited t) (scan (end + 1) (decode (drop (end + 1) s)));
         stands = h.stands ∙ ap (λ x. h.sites ++ places_in x) m.goes ∙ meets_cited h.sites from t (scan (end + 1) (decode (drop (end + 1) s))) ∙ ap (λ (x : Place). (h.sites ++ (x ∷ [])) ++ places_in (scan (end + 1) (decode (drop (end + 1) s)))) c;
         ends = h.ends ∙ ap (λ x. before h.done (outcome x)) m.goes ∙ meets-outcome h.done from (cited t) (scan (end + 1) (decode (drop (end + 1) s)));
-        shown = grown kinds p.tokens cite_kind l ∙ ap (λ (x : List ℕ). x ++ (cite_kind ∷ [])) h.shown ∙ sym (kinds_snoc h.done (cited t));
+        shown = grown kinds p.tokens Citation l ∙ ap (λ (x : List TokenKind). x ++ (Citation ∷ [])) h.shown ∙ sym (kinds_snoc h.done (cited t));
         held = held_on places p.cites v h.sites h.spots h.held;
       }
 
   pub state_stored : (from end : ℕ) (v : Place) (places' : List Place) → places' ≡ set places p.cites v → Cites s p.at from end → p.tokens < length kinds → v ≡ placed from (end - from)
-      → State s (set kinds p.tokens cite_kind) places' (record { at = end + 1; tokens = p.tokens + 1; cites = p.cites + 1; bytes = p.bytes + (end - from); depth = p.depth })
+      → State s (set kinds p.tokens Citation) places' (record { at = end + 1; tokens = p.tokens + 1; cites = p.cites + 1; bytes = p.bytes + (end - from); depth = p.depth })
   state_stored from end v places' w m l k =
-      subst (λ (x : List Place). State s (set kinds p.tokens cite_kind) x (record { at = end + 1; tokens = p.tokens + 1; cites = p.cites + 1; bytes = p.bytes + (end - from); depth = p.depth })) (sym w) (state_cite from end v m l k)
+      subst (λ (x : List Place). State s (set kinds p.tokens Citation) x (record { at = end + 1; tokens = p.tokens + 1; cites = p.cites + 1; bytes = p.bytes + (end - from); depth = p.depth })) (sym w) (state_cite from end v m l k)
 
   -- what was written since lexing began
-  module _ (kinds₀ : List ℕ) (places₀ : List Place) (same : length places ≡ length places₀) (restk : drop p.tokens kinds ≡ drop p.tokens kinds₀) (restp : drop p.cites places ≡ drop p.cites places₀) where
+  module _ (kinds₀ : List TokenKind) (places₀ : List Place) (same : length places ≡ length places₀) (restk : drop p.tokens kinds ≡ drop p.tokens kinds₀) (restp : drop p.cites places ≡ drop p.cites places₀) where
     kinds-over : kinds ≡ over (kinds_of h.done) kinds₀
     kinds-over =
         sym (take-append-drop p.tokens kinds)
@@ -298,7 +305,7 @@ module _ {s kinds : List ℕ} {places : List Place} {p : Count} (h : State s kin
         let n = halt_none why in
         (sym (scan_lex 0 (decode s)) ∙ h.ends ∙ ap (λ x. before h.done (outcome x)) e ∙ ap (before h.done) n.2 ∙ before_refused h.done why, written (halt why) e n.0 n.1)
 
-    pub state_halts : (why : Refusal) (kinds' : List ℕ) (places' : List Place) → Turned s kinds places kinds' places' p (Err why) → Ends s kinds₀ places₀ kinds' places' (Err why)
+    pub state_halts : (why : Refusal) (kinds' : List TokenKind) (places' : List Place) → Turned s kinds places kinds' places' p (Err why) → Ends s kinds₀ places₀ kinds' places' (Err why)
     state_halts why kinds' places' t =
         subst (λ x. Ends s kinds₀ places₀ x places' (Err why)) (sym t.1) (subst (λ x. Ends s kinds₀ places₀ kinds x (Err why)) (sym t.2) (state_off why t.0))
 
@@ -313,16 +320,16 @@ module _ {s kinds : List ℕ} {places : List Place} {p : Count} (h : State s kin
       sym (scan_lex 0 (decode s)) ∙ h.ends ∙ ap (λ (x : List ℕ). before h.done (outcome (scan p.at x))) (none_left s p.at l) ∙ ap (before h.done) (last_none p.at).2 ∙ before_end h.done
 
 -- what `lex` answers and writes
-abbrev pub Answers : (s kinds₀ : List ℕ) (places₀ : List Place) (kinds : List ℕ) (places : List Place) → Result Lexed Refusal → Type 0
+abbrev pub Answers : (s : List ℕ) (kinds₀ : List TokenKind) (places₀ : List Place) (kinds : List TokenKind) (places : List Place) → Result Lexed Refusal → Type 0
 Answers s kinds₀ places₀ kinds places r = (r ≡ map_ok counted (tokenized (decode s))) × Written s kinds₀ places₀ kinds places
 
-pub lex_off : (s kinds₀ : List ℕ) (places₀ : List Place) (kinds : List ℕ) (places : List Place) (why : Refusal) → Ends s kinds₀ places₀ kinds places (Err why) → Answers s kinds₀ places₀ kinds places (Err why)
+pub lex_off : (s : List ℕ) (kinds₀ : List TokenKind) (places₀ : List Place) (kinds : List TokenKind) (places : List Place) (why : Refusal) → Ends s kinds₀ places₀ kinds places (Err why) → Answers s kinds₀ places₀ kinds places (Err why)
 unfolding tokenized then map_ok
 lex_off s kinds₀ places₀ kinds places why e =
     let x : tokenized (decode s) ≡ Err why = rw e.0 in
     (sym (ap (map_ok counted) x), e.1)
 
-pub lex_on : (s kinds₀ : List ℕ) (places₀ : List Place) (kinds : List ℕ) (places : List Place) (p : Count) → Ends s kinds₀ places₀ kinds places (Ok p) → (r : Result Lexed Refusal) → r ≡ counts_limited p → Answers s kinds₀ places₀ kinds places r
+pub lex_on : (s : List ℕ) (kinds₀ : List TokenKind) (places₀ : List Place) (kinds : List TokenKind) (places : List Place) (p : Count) → Ends s kinds₀ places₀ kinds places (Ok p) → (r : Result Lexed Refusal) → r ≡ counts_limited p → Answers s kinds₀ places₀ kinds places r
 unfolding tokenized then
 lex_on s kinds₀ places₀ kinds places p g r e =
     let h = g.1 in

@@ -1,5 +1,5 @@
 -- Runs of characters: white space, words, the text of a citation. Assumes nothing.
-use Rattle.std.specs.Prelude.{ℕ, ◌+◌, Bool, true, false, cond, List, [], ◌∷◌, eqb, length, drop}
+use Rattle.std.specs.Prelude.{◌≡◌, ℕ, ◌+◌, ◌^◌, ◌<◌, Bool, true, false, cond, List, [], ◌∷◌, eqb, length, drop}
 use Rattle.laws.specs.Tests.{agree}
 use Rattle.utf8.specs.Utf8.{decode, encode}
 use Rattle.utf8.specs.White.{is_white}
@@ -19,6 +19,10 @@ trailing w (c ∷ cs) = cond (agree (is_white c) w) (trailing w cs) (c ∷ cs)
 -- the place after the characters from `at` on that are white space, or that are not
 abbrev pub run_end : Bool → List ℕ → ℕ → ℕ
 run_end w s at = at + length (encode (leading w (decode (drop at s))))
+
+-- a test's answers say of each character whether a run goes on: one of white space, for true; one of none, for false
+abbrev pub GoesOn : Bool → (ℕ → Bool → Type 0) → Type 0
+GoesOn w answers = (c : ℕ) (b : Bool) → c < 2 ^ 32 → answers c b → b ≡ agree (is_white c) w
 
 -- what stands before the first x, or all
 unfoldable pub up_to : ℕ → List ℕ → List ℕ

@@ -1,48 +1,52 @@
 -- What the lexer answers and writes: counts, kinds of tokens, places of citations. Assumes nothing.
-use Rattle.std.specs.Prelude.{ℕ, suc, pred, cond, ◌&&◌, List, [], ◌∷◌, ◌++◌, eqb, leb, ltb, length, take, drop, Result, Ok}
+use Rattle.std.specs.Prelude.{ℕ, suc, pred, cond, ◌&&◌, List, [], ◌∷◌, leb, ltb, length, take, drop, Result, Ok}
 use Rattle.refusal.specs.declared.Refusal.{Refusal}
 use Rattle.refusal.specs.Result.{unless, then}
 use Rattle.refusal.specs.declared.Refusal.TheVariants.{Empty, TooManyCitations, TooDeep}
-use Rattle.grammar.specs.Expr.{concat}
+use Rattle.grammar.specs.Expr as expr
+use Rattle.grammar.specs.Expr.{Op, concat}
 use Rattle.grammar.specs.Lex.{Tok, cited, op, opening, closing, Part, bracket, sign, left, right, space, stray, lex, texts}
-use Rattle.grammar.specs.Rows.{cite_kind, op_kind}
 use Rattle.grammar.specs.Reading.{citation_limit, cited_limit, open_limit, some_token, few, shallow}
 use Rattle.lexer.specs.declared.Count.{Count}
+use Rattle.lexer.specs.declared.TokenKind.{TokenKind}
+use Rattle.lexer.specs.declared.TokenKind.TheVariants.{Citation, And, Or, Xor, Opening, Closing}
+use Rattle.lexer.specs.declared.Meaning.{Meaning}
+use Rattle.lexer.specs.declared.Meaning.TheVariants.{Bracket, Mark, White, Stray}
 use Rattle.lexer.specs.declared.Lexed.{Lexed}
 use Rattle.lexer.specs.declared.Place.{Place}
 
--- the kind of an opening parenthesis
-abbrev pub open_kind : ℕ
-open_kind = 5
+-- an operator's kind
+unfoldable pub sign_kind : Op → TokenKind
+sign_kind expr.And = And
+sign_kind expr.Or = Or
+sign_kind expr.Xor = Xor
 
--- the kind of a closing parenthesis
-abbrev pub close_kind : ℕ
-close_kind = 6
-
--- a token's kind: that of its node row, if it has one
-unfoldable pub kind_of : Tok → ℕ
-kind_of (cited t) = cite_kind
-kind_of (op o) = op_kind o
-kind_of opening = open_kind
-kind_of closing = close_kind
+-- a token's kind
+unfoldable pub kind_of : Tok → TokenKind
+kind_of (cited t) = Citation
+kind_of (op o) = sign_kind o
+kind_of opening = Opening
+kind_of closing = Closing
 
 -- the kinds of tokens
-unfoldable pub kinds_of : List Tok → List ℕ
+unfoldable pub kinds_of : List Tok → List TokenKind
 kinds_of [] = []
 kinds_of (t ∷ ts) = kind_of t ∷ kinds_of ts
 
--- what a character outside a citation is, as a number: the kind of the token that it is or begins, 7 white space, 8 stray
-unfoldable pub part_number : Part → ℕ
-part_number bracket = cite_kind
-part_number (sign o) = op_kind o
-part_number left = open_kind
-part_number right = close_kind
-part_number space = 7
-part_number stray = 8
+-- what a character outside a citation is
+unfoldable pub meaning : Part → Meaning
+meaning bracket = Bracket
+meaning (sign o) = Mark (sign_kind o)
+meaning left = Mark Opening
+meaning right = Mark Closing
+meaning space = White
+meaning stray = Stray
 
--- the open parentheses after a token of the kind k; once they are too many, that stays
-abbrev pub deeper : (d k : ℕ) → ℕ
-deeper d k = cond (ltb open_limit d) d (cond (eqb k open_kind) (suc d) (cond (eqb k close_kind) (pred d) d))
+-- the open parentheses after a token of a kind; once they are too many, that stays
+abbrev pub deeper : ℕ → TokenKind → ℕ
+deeper d Opening = cond (ltb open_limit d) d (suc d)
+deeper d Closing = cond (ltb open_limit d) d (pred d)
+deeper d k = d
 
 -- the same after tokens
 unfoldable pub depth : ℕ → List Tok → ℕ
@@ -80,7 +84,3 @@ cut s v = take v.size (drop v.from s)
 unfoldable pub cuts : List ℕ → List Place → List (List ℕ)
 cuts s [] = []
 cuts s (v ∷ vs) = cut s v ∷ cuts s vs
-
--- a list put over the front of another: behind it stands what stood there
-abbrev pub over : {A : Type 0} → List A → List A → List A
-over s old = s ++ drop (length s) old

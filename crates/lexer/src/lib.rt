@@ -1,48 +1,102 @@
-// From a text in UTF-8 to tokens: a byte a token, the place of each citation's text, and the tests that come before parsing. For a status, its first word and its other words joined.
+// From a text in UTF-8 to tokens: the kind of each, the place of each citation's text, and the tests that come before parsing. For a status, its first word and its other words joined.
 
 #![tactic(auto)]
 
-ghost use Rattle.std.specs.Prelude.{◌≡◌, true, false, ◌++◌, ◌+◌, ◌-◌, ◌≤◌, ◌<◌, length, take, drop, set};
+ghost use Rattle.std.specs.Prelude.{◌≡◌, Bool, true, false, ◌++◌, ◌+◌, ◌-◌, ◌≤◌, ◌<◌, length, take, drop, set, MatchResult};
 ghost use Rattle.refusal.specs.Result.{map_ok};
-ghost use Rattle.laws.specs.Tests.{agree};
+ghost use Rattle.text.specs.Bytes.{over};
 ghost use Rattle.utf8.specs.Utf8.{is_utf8, decode, encode};
 ghost use Rattle.utf8.specs.Limits.{text_limit};
 ghost use Rattle.grammar.specs.Lex.{cite_end, part};
 ghost use Rattle.grammar.specs.Status.{words, joined};
 ghost use Rattle.fields.specs.Appended.{Appended};
-ghost use Rattle.lexer.specs.Runs.{run_end, up_to, first_word, gap};
-ghost use Rattle.lexer.specs.Tokens.{kinds_of, part_number, deeper, counted, tokenized, counts_limited, placed, over};
+ghost use Rattle.lexer.specs.Runs.{run_end, GoesOn, up_to, first_word, gap};
+ghost use Rattle.lexer.specs.Tokens.{kinds_of, meaning, deeper, counted, tokenized, counts_limited, placed};
+ghost use Rattle.lexer.specs.Numbers.{numbered, kind_number};
+ghost use Rattle.lexer.specs.Admitted.{NotAdmitted};
 ghost use Rattle.lexer.specs.Scan.{scan, scanned, places_in};
 ghost use Rattle.lexer.specs.State.{Closes, Begins, State, Turned, Ends};
 
 use fields::put_text;
+pub use grammar::{CITATION_LIMIT, CITED_LIMIT};
 use refusal::Refusal;
-use utf8::Step;
+use utf8::{Step, TEXT_LIMIT};
 
-// The kinds of tokens; a citation and the operators have those of their node rows.
-pub const CITATION: u8 = 0;
+// The kinds of tokens.
+#[derive(Clone, Copy, Debug, PartialEq, Eq)]
+pub enum TokenKind {
+    Citation,
+    And,
+    Or,
+    Xor,
+    Opening,
+    Closing,
+}
 
-pub const AND: u8 = 2;
+// The kind for which a byte stands: a citation and the operators have the numbers of their node rows, an opening parenthesis has 5,
+// and what is no kind closes.
+impl From<u8> for TokenKind {
+    ghost from_gives = { λ number kind. kind ≡ numbered number };
 
-pub const OR: u8 = 3;
+    #[tactic(auto, using(crate::specs::Numbers::numbered_one, crate::specs::Numbers::numbered_over), unfolding(crate::specs::Numbers::numbered))]
+    fn from(number: u8) -> TokenKind {
+        match number {
+            0 => TokenKind::Citation,
+            2 => TokenKind::And,
+            3 => TokenKind::Or,
+            4 => TokenKind::Xor,
+            5 => TokenKind::Opening,
+            _ => TokenKind::Closing,
+        }
+    }
+}
 
-pub const XOR: u8 = 4;
+// The number that stands for a kind.
+impl From<TokenKind> for u8 {
+    ghost from_gives = { λ kind number. number ≡ kind_number kind };
 
-pub const OPENING: u8 = 5;
+    #[tactic(auto, unfolding(crate::specs::Numbers::kind_number))]
+    fn from(kind: TokenKind) -> u8 {
+        match kind {
+            TokenKind::Citation => 0,
+            TokenKind::And => 2,
+            TokenKind::Or => 3,
+            TokenKind::Xor => 4,
+            TokenKind::Opening => 5,
+            TokenKind::Closing => 6,
+        }
+    }
+}
 
-pub const CLOSING: u8 = 6;
+// What a character outside a citation is: the beginning of one, another token, white space, or none of these.
+#[derive(Clone, Copy)]
+enum Meaning {
+    Bracket,
+    Mark(TokenKind),
+    White,
+    Stray,
+}
 
-// What else a character outside a citation can be.
-const WHITE: u8 = 7;
-
-const STRAY: u8 = 8;
-
-// Most citations, most bytes in them, most parentheses open at a time.
-pub const CITATION_LIMIT: usize = 256;
-
-pub const CITED_LIMIT: usize = 2048;
-
+// Most parentheses open at a time.
 pub const OPEN_LIMIT: usize = 256;
+
+// A text that was admitted: short enough, and UTF-8.
+#[derive(Clone, Copy)]
+pub struct Text<'a> {
+    pub bytes: &'a [u8],
+    ghost short: { length bytes.now ≤ text_limit },
+    ghost well: { is_utf8 bytes.now ≡ true },
+}
+
+impl<'a> Text<'a> {
+    // The text that the bytes are; 10 and 11 if they are none.
+    pub fn admit(bytes: &'a [u8]) -> Result<Self, Refusal>
+        ensures { MatchResult result (λ text. text.bytes.now ≡ bytes.entry.now) (λ why. NotAdmitted bytes.entry.now why) }
+    {
+        utf8::admit(bytes, TEXT_LIMIT)?;
+        Ok(Text { bytes })
+    }
+}
 
 // Part of a text: its first byte's number, and the number of the byte after it.
 #[derive(Clone, Copy)]
@@ -62,7 +116,7 @@ pub struct Place {
 #[derive(Clone, Copy)]
 enum Token {
     Space(usize),
-    Mark { kind: u8, next: usize },
+    Mark { kind: TokenKind, next: usize },
     Cite { from: usize, end: usize },
 }
 
@@ -84,14 +138,15 @@ pub struct Lexed {
     pub bytes: usize,
 }
 
-// The place after the characters from `at` on that are white space, or after those that are not, whatever characters they are.
-fn any_end(text: &[u8], at: usize, white: bool) -> usize
-    ensures { result ≡ run_end white text.now at }
+// The place after the characters from `at` on of which the test `on` holds.
+fn run_while<F: Fn(u32) -> bool>(text: &[u8], at: usize, on: F) -> usize
+    requires { F.IsAlwaysCallable on }
+    ensures { (white : Bool) → GoesOn white (F.post on) → result ≡ run_end white text.now at }
 {
-    // a loop: each step is as wide as its character
+    // No `for`: a step is as wide as its character, and an iterator of our own would be this step again, with this loop's invariant as its law.
     let mut i = at;
     while let Step::Char { code, width } = utf8::step_at(text, i) {
-        if utf8::is_white(code) != white {
+        if !on(code) {
             return i;
         }
         i += width;
@@ -107,29 +162,55 @@ fn other_end(text: &[u8], at: usize) -> usize
     if text[at].is_ascii_graphic() {
         return at;
     }
-    any_end(text, at, true)
+    run_while(text, at, utf8::is_white)
+}
+
+// Eight spaces.
+const SPACES: [u8; 8] = [b' '; 8];
+
+// The place after the spaces from `at` on that make whole eights; no index is counted, the slice that is left gets shorter. One by one, a long run takes several times as long, by where the loop lies in memory.
+fn past_eights(text: &[u8], at: usize) -> usize
+    requires { at ≤ length text.now }
+    ensures { (result ≤ length text.now) × (run_end true text.now result ≡ run_end true text.now at) }
+{
+    let mut rest = &text[at..];
+    while let Some((eight, after)) = rest.split_first_chunk::<8>() {
+        if *eight != SPACES {
+            break;
+        }
+        rest = after;
+    }
+    text.len() - rest.len()
 }
 
 // The place after the white space from `at` on: spaces first.
-fn white_end(text: &[u8], at: usize) -> usize
+pub fn white_end(text: &[u8], at: usize) -> usize
     ensures { result ≡ run_end true text.now at }
 {
-    for i in at..text.len() {
+    if text.len() <= at {
+        return at;
+    }
+    if text[at] != b' ' {
+        return other_end(text, at);
+    }
+    for i in past_eights(text, at)..text.len() {
         if text[i] != b' ' {
             return other_end(text, i);
         }
     }
-    at.max(text.len())
+    text.len()
 }
 
-// The place after the characters from `at` on that are white space, or after those that are not.
-pub fn run_end(text: &[u8], at: usize, white: bool) -> usize
-    ensures { result ≡ run_end white text.now at }
+// The place after the characters from `at` on that are not white space: visible ASCII ones first.
+pub fn word_end(text: &[u8], at: usize) -> usize
+    ensures { result ≡ run_end false text.now at }
 {
-    if white {
-        return white_end(text, at);
+    for i in at..text.len() {
+        if !text[i].is_ascii_graphic() {
+            return run_while(text, i, |c| !utf8::is_white(c));
+        }
     }
-    any_end(text, at, false)
+    at.max(text.len())
 }
 
 // The place of the first `]` from `at` on, or the text's end.
@@ -153,24 +234,25 @@ fn close_at(text: &[u8], at: usize) -> Result<usize, Refusal>
     if text.len() <= end {
         return Err(Refusal::Unterminated);
     }
-    if run_end(text, at, true) == end {
+    if white_end(text, at) == end {
         return Err(Refusal::EmptyCondition);
     }
     Ok(end)
 }
 
-fn part_of(c: u32) -> u8
-    ensures { result ≡ part_number (part c) }
+// What a character outside a citation is.
+fn part_of(c: u32) -> Meaning
+    ensures { result ≡ meaning (part c) }
 {
     match c {
-        0x5B => CITATION,
-        0x28 => OPENING,
-        0x29 => CLOSING,
-        0x2227 => AND,
-        0x2228 => OR,
-        0x22BB => XOR,
-        _ if utf8::is_white(c) => WHITE,
-        _ => STRAY,
+        0x5B => Meaning::Bracket,
+        0x28 => Meaning::Mark(TokenKind::Opening),
+        0x29 => Meaning::Mark(TokenKind::Closing),
+        0x2227 => Meaning::Mark(TokenKind::And),
+        0x2228 => Meaning::Mark(TokenKind::Or),
+        0x22BB => Meaning::Mark(TokenKind::Xor),
+        _ if utf8::is_white(c) => Meaning::White,
+        _ => Meaning::Stray,
     }
 }
 
@@ -184,26 +266,26 @@ fn token_at(text: &[u8], at: usize) -> Result<Token, Refusal>
     };
     let next = at + width;
     match part_of(code) {
-        CITATION => Ok(Token::Cite {
+        Meaning::Bracket => Ok(Token::Cite {
             from: next,
             end: close_at(text, next)?,
         }),
-        WHITE => Ok(Token::Space(next)),
-        STRAY => Err(Refusal::Stray),
-        kind => Ok(Token::Mark { kind, next }),
+        Meaning::Mark(kind) => Ok(Token::Mark { kind, next }),
+        Meaning::White => Ok(Token::Space(next)),
+        Meaning::Stray => Err(Refusal::Stray),
     }
 }
 
 // The open parentheses after a token; once there are too many, that stays.
-fn depth_after(d: usize, kind: u8) -> usize
+fn depth_after(d: usize, kind: TokenKind) -> usize
     ensures { result ≡ deeper d kind }
 {
     if OPEN_LIMIT < d {
         return d;
     }
     match kind {
-        OPENING => d + 1,
-        CLOSING => d.saturating_sub(1),
+        TokenKind::Opening => d + 1,
+        TokenKind::Closing => d.saturating_sub(1),
         _ => d,
     }
 }
@@ -231,15 +313,15 @@ fn store(places: &mut [Place], m: usize, place: Place)
 
 // One token, or white space.
 fn read_token(
-    text: &[u8],
-    kinds: &mut [u8],
+    text: Text,
+    kinds: &mut [TokenKind],
     places: &mut [Place],
     p: Count,
 ) -> Result<Count, Refusal>
-    requires { (length text.now ≤ text_limit) × (length text.now ≤ length kinds.old) × (p.at < length text.now) × State text.now kinds.old places.old p }
-    ensures { Turned text.now kinds.old places.old kinds.new places.new p result }
+    requires { (length text.bytes.now ≤ length kinds.old) × (p.at < length text.bytes.now) × State text.bytes.now kinds.old places.old p }
+    ensures { Turned text.entry.bytes.now kinds.old places.old kinds.new places.new p result }
 {
-    match token_at(text, p.at)? {
+    match token_at(text.bytes, p.at)? {
         Token::Space(next) => Ok(Count { at: next, ..p }),
         Token::Mark { kind, next } => {
             kinds[p.tokens] = kind;
@@ -251,7 +333,7 @@ fn read_token(
             })
         }
         Token::Cite { from, end } => {
-            kinds[p.tokens] = CITATION;
+            kinds[p.tokens] = TokenKind::Citation;
             store(places, p.cites, place_of(from, end));
             Ok(Count {
                 at: end + 1,
@@ -265,9 +347,9 @@ fn read_token(
 }
 
 // The tokens of a whole text, or the leftmost refusal.
-fn lex_all(text: &[u8], kinds: &mut [u8], places: &mut [Place]) -> Result<Count, Refusal>
-    requires { (length text.now ≤ text_limit) × (length text.now ≤ length kinds.old) × (is_utf8 text.now ≡ true) }
-    ensures { Ends text.now kinds.old places.old kinds.new places.new result }
+fn lex_all(text: Text, kinds: &mut [TokenKind], places: &mut [Place]) -> Result<Count, Refusal>
+    requires { length text.bytes.now ≤ length kinds.old }
+    ensures { Ends text.entry.bytes.now kinds.old places.old kinds.new places.new result }
 {
     let mut p = Count {
         at: 0,
@@ -276,8 +358,8 @@ fn lex_all(text: &[u8], kinds: &mut [u8], places: &mut [Place]) -> Result<Count,
         bytes: 0,
         depth: 0,
     };
-    // A step is as wide as a token.
-    while p.at < text.len() {
+    // No `for`: a step is as wide as its token, and an iterator of our own would be this step again, with this loop's invariant as its law.
+    while p.at < text.bytes.len() {
         p = read_token(text, kinds, places, p)?;
     }
     Ok(p)
@@ -304,11 +386,11 @@ fn limited(p: Count) -> Result<Lexed, Refusal>
 }
 
 // The tokens of a text, those in front of the leftmost refusal if there is one: the kind of each in `kinds`, the places of the citations' texts in `places`, as many as have room there.
-pub fn lex(text: &[u8], kinds: &mut [u8], places: &mut [Place]) -> Result<Lexed, Refusal>
-    requires { (length text.now ≤ text_limit) × (length text.now ≤ length kinds.old) × (is_utf8 text.now ≡ true) }
-    ensures result_value { result ≡ map_ok counted (tokenized (decode text.now)) }
-    ensures kinds_after { kinds.new ≡ over (kinds_of (scanned (scan 0 (decode text.now)))) kinds.old }
-    ensures places_after { places.new ≡ over (take (length places.old) (places_in (scan 0 (decode text.now)))) places.old }
+pub fn lex(text: Text, kinds: &mut [TokenKind], places: &mut [Place]) -> Result<Lexed, Refusal>
+    requires { length text.bytes.now ≤ length kinds.old }
+    ensures result_value { result ≡ map_ok counted (tokenized (decode text.entry.bytes.now)) }
+    ensures kinds_after { kinds.new ≡ over (kinds_of (scanned (scan 0 (decode text.entry.bytes.now)))) kinds.old }
+    ensures places_after { places.new ≡ over (take (length places.old) (places_in (scan 0 (decode text.entry.bytes.now)))) places.old }
 {
     limited(lex_all(text, kinds, places)?)
 }
@@ -317,8 +399,8 @@ pub fn lex(text: &[u8], kinds: &mut [u8], places: &mut [Place]) -> Result<Lexed,
 pub fn first_word(text: &[u8]) -> Span
     ensures { result ≡ first_word text.now }
 {
-    let from = run_end(text, 0, true);
-    let end = run_end(text, from, false);
+    let from = white_end(text, 0);
+    let end = word_end(text, from);
     Span { from, end }
 }
 
@@ -340,14 +422,14 @@ pub fn join_words(text: &[u8], from: usize, out: &mut [u8]) -> usize
     ensures value { result ≡ length (encode (joined (words (decode (drop from text.now))))) }
     ensures out_after { out.new ≡ encode (joined (words (decode (drop from text.now)))) ++ drop result out.old }
 {
-    let mut at = run_end(text, from, true);
+    let mut at = white_end(text, from);
     let mut n = 0;
-    // A step is as wide as a word and the white space after it.
+    // No `for`: a step is as wide as a word and the white space after it, and an iterator of our own would be this step again, with this loop's invariant as its law.
     while at < text.len() {
         let to = add_gap(out, n);
-        let end = run_end(text, at, false);
+        let end = word_end(text, at);
         n = put_text(&text[at..end], out, to);
-        at = run_end(text, end, true);
+        at = white_end(text, end);
     }
     n
 }

@@ -58,7 +58,7 @@ impl<const N: usize> Line<N> {
     }
 }
 
-// The lines, and the number of the one that comes next, from 0 and at most 3.
+// The lines, and the number of the one that comes next, from 0 and at most 3: a count, as the definition `next_row` has it.
 #[derive(Drop)]
 pub struct Input {
     row: usize,

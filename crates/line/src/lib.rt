@@ -2,13 +2,13 @@
 
 #![tactic(auto)]
 
-ghost use Rattle.std.specs.Prelude.{◌≡◌, true, ◌∷◌, ◌+◌, ◌*◌, ◌≤◌, ◌<◌, length, take};
+ghost use Rattle.std.specs.Prelude.{◌≡◌, ◌∷◌, ◌+◌, ◌*◌, ◌≤◌, ◌<◌, length, take};
 ghost use Rattle.refusal.specs.Refusals.{number_of};
 ghost use Rattle.status.specs.Status.{word_of};
 ghost use Rattle.grammar.specs.Lex.{blank_char};
 ghost use Rattle.grammar.specs.Print.{printed};
 ghost use Rattle.grammar.specs.Reading.{citation_limit, print_limit};
-ghost use Rattle.grammar.specs.Bytes.{cites, texts_in, is_tree, tree_at, tree_limit};
+ghost use Rattle.grammar.specs.Bytes.{cites, texts_in, tree_at, tree_limit};
 ghost use Rattle.grammar.specs.Outcome.{answer_of, written_of};
 ghost use Rattle.semantics.specs.Violations as violated;
 ghost use Rattle.semantics.specs.Packages as packages;
@@ -26,19 +26,17 @@ use printer::{PRINT_LIMIT, display};
 use reader::Status;
 use refusal::Refusal;
 use status::StatusKind;
-use tree::{CITATION_LIMIT, TREE_LIMIT, text_at};
-use verdicts::{eval_and_truth, violations};
+use tree::{CITATION_LIMIT, TREE_LIMIT, Tree};
+use verdicts::{LIST_SIZE, eval_and_truth, violations};
 
 mod kept;
 
-// The sizes of the scratch: all numbers of citations, all package rows, all lines.
-const LIST_SIZE: usize = 512;
-
+// The sizes of the scratch: all package rows, all lines.
 const ROWS_SIZE: usize = 4864;
 
 pub const LINES_SIZE: usize = 6708;
 
-// f u t n e for 0 to 4, and 5 for any other letter.
+// f u t n e for 0 to 4, and 5 for any other letter, as the definition counts: it is an answer byte that is refused like any over 4.
 fn answer_byte(letter: u8) -> u8
     ensures { result ≡ answer_byte letter }
 {
@@ -70,7 +68,7 @@ fn digit(d: usize) -> u8
 }
 
 // A number in decimal; the answer is the place after it, here and below. What is written goes by functions and not by
-// `Display`, since a contract names the bytes.
+// `Display`, since a contract names the bytes, by the field's own `figures`.
 fn put_number(n: usize, out: &mut [u8], at: usize) -> usize
     requires { (n < 1000) × (at + longest_number ≤ length out.old) }
     ensures { Within longest_number (figures n) at out.old out.new result }
@@ -118,7 +116,8 @@ fn refused_line(why: Refusal, out: &mut [u8]) -> usize
 }
 
 // The lines of a report: each says another definition of another value, so they stay functions of their own; one law serves
-// all.
+// all. Kind, tree and value are three parameters, since these functions take different parts of them; and a buffer may be longer
+// than a report, so its length is a clause and no array's.
 fn status_line(kind: StatusKind, out: &mut [u8], at: usize) -> usize
     requires { at + longest_status_line ≤ length out.old }
     ensures { Within longest_status_line (line "status " (word_of kind)) at out.old out.new result }
@@ -129,16 +128,16 @@ fn status_line(kind: StatusKind, out: &mut [u8], at: usize) -> usize
 }
 
 // The print of a tree, at the start of a scratch.
-fn print_into(tree: &[u8], scratch: &mut [u8]) -> usize
-    requires { (is_tree tree.now ≡ true) × (print_limit ≤ length scratch.old) }
-    ensures { (result ≤ print_limit) × (take result scratch.new ≡ printed (tree_at tree.now 0)) }
+fn print_into(tree: Tree, scratch: &mut [u8]) -> usize
+    requires { print_limit ≤ length scratch.old }
+    ensures { (result ≤ print_limit) × (take result scratch.new ≡ printed (tree_at tree.entry.bytes.now 0)) }
 {
-    display(tree, scratch).unwrap_or(0)
+    display(tree.bytes, scratch).unwrap_or(0)
 }
 
-fn tree_line(tree: &[u8], out: &mut [u8], at: usize) -> usize
-    requires { (is_tree tree.now ≡ true) × (at + longest_tree_line ≤ length out.old) }
-    ensures { Within longest_tree_line (line "tree " (printed (tree_at tree.now 0))) at out.old out.new result }
+fn tree_line(tree: Tree, out: &mut [u8], at: usize) -> usize
+    requires { at + longest_tree_line ≤ length out.old }
+    ensures { Within longest_tree_line (line "tree " (printed (tree_at tree.entry.bytes.now 0))) at out.old out.new result }
 {
     let mut scratch = [0u8; PRINT_LIMIT];
     let n = print_into(tree, &mut scratch);
@@ -157,16 +156,16 @@ fn presence_line(truth: Truth, out: &mut [u8], at: usize) -> usize
 }
 
 // How many package rows a tree has.
-fn count_pakete(tree: &[u8], scratch: &mut [u8]) -> usize
-    requires { (is_tree tree.now ≡ true) × (longest_rows ≤ length scratch.old) }
-    ensures { (result ≤ citation_limit) × (result ≡ length (packages.pakete (tree_at tree.now 0))) }
+fn count_pakete(tree: Tree, scratch: &mut [u8]) -> usize
+    requires { longest_rows ≤ length scratch.old }
+    ensures { (result ≤ citation_limit) × (result ≡ length (packages.pakete (tree_at tree.entry.bytes.now 0))) }
 {
-    pakete(tree, scratch).unwrap_or(0)
+    pakete(tree.bytes, scratch).unwrap_or(0)
 }
 
-fn pakete_line(tree: &[u8], out: &mut [u8], at: usize) -> usize
-    requires { (is_tree tree.now ≡ true) × (at + longest_pakete_line ≤ length out.old) }
-    ensures { Within longest_pakete_line (line "pakete " (figures (length (packages.pakete (tree_at tree.now 0))))) at out.old out.new result }
+fn pakete_line(tree: Tree, out: &mut [u8], at: usize) -> usize
+    requires { at + longest_pakete_line ≤ length out.old }
+    ensures { Within longest_pakete_line (line "pakete " (figures (length (packages.pakete (tree_at tree.entry.bytes.now 0))))) at out.old out.new result }
 {
     let mut scratch = [0u8; ROWS_SIZE];
     let n = count_pakete(tree, &mut scratch);
@@ -176,18 +175,18 @@ fn pakete_line(tree: &[u8], out: &mut [u8], at: usize) -> usize
 }
 
 // A space and a citation's text.
-fn put_cited(tree: &[u8], number: usize, out: &mut [u8], at: usize) -> usize
-    requires { (is_tree tree.now ≡ true) × (number < cites tree.now) × (at + (length (text_at tree.now number) + 1) ≤ length out.old) }
-    ensures { Appended (blank_char ∷ text_at tree.now number) at out.old out.new result }
+fn put_cited(tree: Tree, number: usize, out: &mut [u8], at: usize) -> usize
+    requires { (number < cites tree.bytes.now) × (at + (length (text_at tree.bytes.now number) + 1) ≤ length out.old) }
+    ensures { Appended (blank_char ∷ text_at tree.entry.bytes.now number) at out.old out.new result }
 {
     let from = put_byte(out, at, b' ');
-    put_text(text_at(tree, number), out, from)
+    put_text(tree.text_at(number), out, from)
 }
 
 // The same of so many citations, whose numbers stand in a list.
-fn put_named(tree: &[u8], list: &[u8], count: usize, out: &mut [u8], at: usize) -> usize
-    requires { (is_tree tree.now ≡ true) × (2 * count ≤ length list.now) × AllBelow (cites tree.now) (numbers_from list.now count 0) × (at + length (named (texts_in tree.now) (numbers_from list.now count 0)) ≤ length out.old) }
-    ensures { Appended (named (texts_in tree.now) (numbers_from list.now count 0)) at out.old out.new result }
+fn put_named(tree: Tree, list: &[u8], count: usize, out: &mut [u8], at: usize) -> usize
+    requires { (2 * count ≤ length list.now) × AllBelow (cites tree.bytes.now) (numbers_from list.now count 0) × (at + length (named (texts_in tree.bytes.now) (numbers_from list.now count 0)) ≤ length out.old) }
+    ensures { Appended (named (texts_in tree.entry.bytes.now) (numbers_from list.now count 0)) at out.old out.new result }
 {
     let mut w = at;
     for k in 0..count {
@@ -197,16 +196,16 @@ fn put_named(tree: &[u8], list: &[u8], count: usize, out: &mut [u8], at: usize) 
 }
 
 // The numbers of the violated citations, at the start of a scratch.
-fn list_violations(tree: &[u8], value: &[u8], scratch: &mut [u8]) -> usize
-    requires { (is_tree tree.now ≡ true) × Admitted value.now × (longest_list ≤ length scratch.old) }
-    ensures { (result ≤ citation_limit) × (numbers_from scratch.new result 0 ≡ violated.violations value.now (tree_at tree.now 0)) }
+fn list_violations(tree: Tree, value: &[u8], scratch: &mut [u8]) -> usize
+    requires { Admitted value.now × (longest_list ≤ length scratch.old) }
+    ensures { (result ≤ citation_limit) × (numbers_from scratch.new result 0 ≡ violated.violations value.now (tree_at tree.entry.bytes.now 0)) }
 {
-    violations(tree, value, scratch).unwrap_or(0)
+    violations(tree.bytes, value, scratch).unwrap_or(0)
 }
 
-fn format_line(truth: Truth, tree: &[u8], value: &[u8], out: &mut [u8], at: usize) -> usize
-    requires { (is_tree tree.now ≡ true) × Admitted value.now × (at + longest_format_line ≤ length out.old) }
-    ensures { Appended (line "format " (format_said value.now truth (tree_at tree.now 0))) at out.old out.new result }
+fn format_line(truth: Truth, tree: Tree, value: &[u8], out: &mut [u8], at: usize) -> usize
+    requires { Admitted value.now × (at + longest_format_line ≤ length out.old) }
+    ensures { Appended (line "format " (format_said value.now truth (tree_at tree.entry.bytes.now 0))) at out.old out.new result }
 {
     let mut list = [0u8; LIST_SIZE];
     let n = list_violations(tree, value, &mut list);
@@ -228,14 +227,14 @@ fn alone_lines(kind: StatusKind, out: &mut [u8]) -> usize
 // The lines of a word and a tree with its presence and its format truth.
 fn tree_lines(
     kind: StatusKind,
-    tree: &[u8],
+    tree: Tree,
     value: &[u8],
     presence: Truth,
     format: Truth,
     out: &mut [u8],
 ) -> usize
-    requires { (is_tree tree.now ≡ true) × Admitted value.now × (longest_report ≤ length out.old) }
-    ensures { Appended (tree_lines kind (tree_at tree.now 0) value.now presence format) 0 out.old out.new result }
+    requires { Admitted value.now × (longest_report ≤ length out.old) }
+    ensures { Appended (tree_lines kind (tree_at tree.entry.bytes.now 0) value.now presence format) 0 out.old out.new result }
 {
     let a = status_line(kind, out, 0);
     let b = tree_line(tree, out, a);
@@ -245,11 +244,11 @@ fn tree_lines(
 }
 
 // The lines of a word and a tree, by answer bytes.
-fn judged_lines(kind: StatusKind, tree: &[u8], codes: &[u8], value: &[u8], out: &mut [u8]) -> usize
-    requires { (is_tree tree.now ≡ true) × (longest_report ≤ length out.old) }
-    ensures { Appended (shown (judged_lines kind tree.now (tree_at tree.now 0) codes.now value.now)) 0 out.old out.new result }
+fn judged_lines(kind: StatusKind, tree: Tree, codes: &[u8], value: &[u8], out: &mut [u8]) -> usize
+    requires { longest_report ≤ length out.old }
+    ensures { Appended (shown (judged_lines kind tree.entry.bytes.now (tree_at tree.entry.bytes.now 0) codes.now value.now)) 0 out.old out.new result }
 {
-    match eval_and_truth(tree, codes, value) {
+    match eval_and_truth(tree.bytes, codes, value) {
         Err(why) => refused_line(why, out),
         Ok((presence, format)) => { tree_lines(kind, tree, value, presence, format, out) }
     }
@@ -258,14 +257,14 @@ fn judged_lines(kind: StatusKind, tree: &[u8], codes: &[u8], value: &[u8], out: 
 // The same by letters, no more than there can be citations.
 fn lettered_lines(
     kind: StatusKind,
-    tree: &[u8],
+    tree: Tree,
     answers: &[u8],
     codes: &mut [u8],
     value: &[u8],
     out: &mut [u8],
 ) -> usize
-    requires { (is_tree tree.now ≡ true) × (length answers.now ≤ length codes.old) × (longest_report ≤ length out.old) }
-    ensures { Appended (shown (judged_lines kind tree.now (tree_at tree.now 0) (answer_bytes answers.now) value.now)) 0 out.old out.new result }
+    requires { (length answers.now ≤ length codes.old) × (longest_report ≤ length out.old) }
+    ensures { Appended (shown (judged_lines kind tree.entry.bytes.now (tree_at tree.entry.bytes.now 0) (answer_bytes answers.now) value.now)) 0 out.old out.new result }
 {
     answer_bytes(answers, codes);
     judged_lines(kind, tree, &codes[..answers.len()], value, out)
@@ -274,13 +273,13 @@ fn lettered_lines(
 // The same by any letters.
 fn answered_lines(
     kind: StatusKind,
-    tree: &[u8],
+    tree: Tree,
     answers: &[u8],
     value: &[u8],
     out: &mut [u8],
 ) -> usize
-    requires { (is_tree tree.now ≡ true) × (longest_report ≤ length out.old) }
-    ensures { Appended (shown (judged_lines kind tree.now (tree_at tree.now 0) (answer_bytes answers.now) value.now)) 0 out.old out.new result }
+    requires { longest_report ≤ length out.old }
+    ensures { Appended (shown (judged_lines kind tree.entry.bytes.now (tree_at tree.entry.bytes.now 0) (answer_bytes answers.now) value.now)) 0 out.old out.new result }
 {
     if CITATION_LIMIT < answers.len() {
         return refused_line(Refusal::WrongAnswers, out);
@@ -303,7 +302,12 @@ fn write_lines(
     match Status::parse(status, tree) {
         Err(why) => refused_line(why, out),
         Ok((kind, None)) => alone_lines(kind, out),
-        Ok((kind, Some(length))) => { answered_lines(kind, &tree[..length], answers, value, out) }
+        Ok((kind, Some(length))) => {
+            let tree = Tree {
+                bytes: &tree[..length],
+            };
+            answered_lines(kind, tree, answers, value, out)
+        }
     }
 }
 

@@ -8,6 +8,8 @@ use lib.ListN.{length, get_or, take, set, length-append, length-set}
 use lib.Seq.{take-take, take_at, take-suc-set, take-set-le, length-take-le, get_or-take, get_or_at}
 use Rattle.grammar.specs.Expr.{Expr, Exprs, cite, none, ◌◂◌, ◌▸◌, citations_of, count}
 use Rattle.grammar.specs.Rows.{span, spans, children}
+use Rattle.grammar.specs.declared.NodeKind.{NodeKind}
+use Rattle.grammar.specs.declared.NodeKind.TheVariants.{Citation}
 use Rattle.parser.specs.Packed.{pack, node_row, postorder, postorders}
 use Rattle.parser.specs.States.{Held, Front}
 use Rattle.parser.specs.declared.Row.{Row}
@@ -22,7 +24,7 @@ front_set n old i v h = take-set-le n old i v h
 
 module _ (start first : ℕ) (work : List Row) where
   -- a citation's row
-  pub held_cite : (t : List ℕ) (v : Row) → start < length work → v ≡ pack 0 first 1 → Held start first (set work start v) (start + 1) (first + 1) (cite t ◂ none)
+  pub held_cite : (t : List ℕ) (v : Row) → start < length work → v ≡ pack Citation first 1 → Held start first (set work start v) (start + 1) (first + 1) (cite t ◂ none)
   unfolding postorder
   held_cite t v h e = record {
     fits = rw (length-set work start v) (omega arith);
@@ -30,7 +32,7 @@ module _ (start first : ℕ) (work : List Row) where
     counted = ap (λ x. first + x) (sym (cite_count t));
     rowed = rw (add-one start) (take-suc-set work start v h)
         ∙ ap (λ x. take start work ++ (x ∷ [])) e
-        ∙ ap (λ x. x ++ (pack 0 first 1 ∷ [])) (sym (take-set-le start work start v (omega arith)));
+        ∙ ap (λ x. x ++ (pack Citation first 1 ∷ [])) (sym (take-set-le start work start v (omega arith)));
   }
 
   module _ (rows cites : ℕ) (es : Exprs) (h : Held start first work rows cites es) where
@@ -48,7 +50,7 @@ module _ (start first : ℕ) (work : List Row) where
     }
 
     -- the row of the node of these operands
-    pub held_node : (k : ℕ) (v : Row) (e : Expr) → rows < length work → v ≡ node_row k es → postorder first e ≡ postorders first es ++ (node_row k es ∷ [])
+    pub held_node : (k : NodeKind) (v : Row) (e : Expr) → rows < length work → v ≡ node_row k es → postorder first e ≡ postorders first es ++ (node_row k es ∷ [])
         → span e ≡ suc (spans es) → count e ≡ length (citations_of es)
         → Held start first (set work rows v) (rows + 1) cites (e ◂ none)
     held_node k v e l q p z c = record {
@@ -90,11 +92,11 @@ module _ (start first : ℕ) (work : List Row) where
           ∙ take_at (take start work ++ postorders first (children e)) (r.value ∷ []) (rows - 1) before;
     }
 
-    pub held_root : get_or work (rows - 1) (pack 0 0 0) ≡ r.value
+    pub held_root : get_or work (rows - 1) (pack Citation 0 0) ≡ r.value
     held_root =
-        sym (get_or-take rows work (rows - 1) (pack 0 0 0) (omega (arith, high)))
-        ∙ ap (λ x. get_or x (rows - 1) (pack 0 0 0)) joined
-        ∙ get_or_at (take start work ++ postorders first (children e)) r.value [] (pack 0 0 0) (rows - 1) before
+        sym (get_or-take rows work (rows - 1) (pack Citation 0 0) (omega (arith, high)))
+        ∙ ap (λ x. get_or x (rows - 1) (pack Citation 0 0)) joined
+        ∙ get_or_at (take start work ++ postorders first (children e)) r.value [] (pack Citation 0 0) (rows - 1) before
 
   -- the trees before the last, and the last
   module _ (rows cites : ℕ) (es : Exprs) (e : Expr) (h : Held start first work rows cites (es ▸ e)) where

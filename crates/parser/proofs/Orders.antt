@@ -5,10 +5,13 @@ use Prim.Native.Nat.{ℕ, suc, ◌+◌, ◌≤◌}
 use native.Mathlib.Nat.{add-zero}
 use native.Mathlib.Omega.{arith}
 use lib.ListN.{length, length-append}
-use Rattle.grammar.specs.Expr.{Op, And, Or, Xor, Expr, Exprs, cite, Then, join, none, more, ◌◂◌, ◌⧺◌, ◌▸◌, citations, citations_of, count, citations_append}
+use Rattle.grammar.specs.Expr.{Op, And, Or, Xor, Expr, Exprs, cite, join, none, more, ◌◂◌, ◌⧺◌, ◌▸◌, citations, citations_of, count, citations_append}
+use Rattle.grammar.specs.Expr as expr
 use Rattle.grammar.specs.Rows as grammar
 use Rattle.grammar.specs.Rows.{row, cite_kind, then_kind, op_kind, many, node, rows, rows_of, span, spans, children, rows_spans}
-use Rattle.parser.specs.Packed.{pack, packed, kind_of_root, node_row, postorder, postorders}
+use Rattle.grammar.specs.Kinds.{sign_kind, node_kind, numbered, numbered-sign}
+use Rattle.grammar.specs.declared.NodeKind.TheVariants.{Citation, Then}
+use Rattle.parser.specs.Packed.{pack, packed, child_count, node_row, postorder, postorders}
 use Rattle.parser.specs.declared.Row.{Row}
 
 mutual
@@ -16,7 +19,7 @@ mutual
 
   pub postorder_span : (n : ℕ) (e : Expr) → length (postorder n e) ≡ span e
   postorder_span n (cite t) = refl
-  postorder_span n (Then es) = length-append (postorders n es) _ ∙ rw (postorder_spans n es) (omega arith)
+  postorder_span n (expr.Then es) = length-append (postorders n es) _ ∙ rw (postorder_spans n es) (omega arith)
   postorder_span n (join o es) = length-append (postorders n es) _ ∙ rw (postorder_spans n es) (omega arith)
 
   pub postorder_spans : (n : ℕ) (es : Exprs) → length (postorders n es) ≡ spans es
@@ -118,56 +121,59 @@ pub record Root (n : ℕ) (e : Expr) : Type 0 where
   pub ahead : packed (rows n e) ≡ value ∷ packed (rows_of n (children e))
   pub sized : span e ≡ suc (spans (children e))
   pub counted : n + length (citations_of (children e)) ≤ n + count e
-  pub is : value ≡ pack (kind_of_root e) number (span e)
-  pub leaf : kind_of_root e ≡ 0 → (number ≡ n) × (children e ≡ none) × (count e ≡ 1)
-  pub inner : ¬ (kind_of_root e ≡ 0) → number ≡ many (children e)
+  pub is : value ≡ pack (node_kind e) number (span e)
+  pub counts : child_count (node_kind e) number ≡ many (children e)
 
-node-packed : (k : ℕ) (n : ℕ) (es : Exprs) → packed (node k (many es) (rows_of n es)) ≡ node_row k es ∷ packed (rows_of n es)
+node-packed : (k : ℕ) (n : ℕ) (es : Exprs) → packed (node k (many es) (rows_of n es)) ≡ node_row (numbered k) es ∷ packed (rows_of n es)
 unfolding node packed
 node-packed k n es = rw (rows_spans n es)
 
-cite_packed : (n : ℕ) → packed (row cite_kind n 1 ∷ []) ≡ pack cite_kind n 1 ∷ packed []
-unfolding packed
+then_packed : (n : ℕ) (es : Exprs) → packed (node then_kind (many es) (rows_of n es)) ≡ node_row Then es ∷ packed (rows_of n es)
+unfolding numbered
+then_packed n es = node-packed then_kind n es
+
+join_packed : (o : Op) (n : ℕ) (es : Exprs) → packed (node (op_kind o) (many es) (rows_of n es)) ≡ node_row (sign_kind o) es ∷ packed (rows_of n es)
+join_packed o n es = node-packed (op_kind o) n es ∙ ap (λ k. node_row k es ∷ packed (rows_of n es)) (numbered-sign o)
+
+cite_packed : (n : ℕ) → packed (row cite_kind n 1 ∷ []) ≡ pack Citation n 1 ∷ packed []
+unfolding packed numbered
 cite_packed n = refl
 
-sign_some : (o : Op) → ¬ (op_kind o ≡ 0)
-unfolding op_kind
-sign_some And h = omega arith
-sign_some Or h = omega arith
-sign_some Xor h = omega arith
+sign_counts : (o : Op) (m : ℕ) → child_count (sign_kind o) m ≡ m
+unfolding sign_kind
+sign_counts And m = refl
+sign_counts Or m = refl
+sign_counts Xor m = refl
 
 pub root : (n : ℕ) (e : Expr) → Root n e
-unfolding postorder rows span children citations kind_of_root
+unfolding postorder rows span children citations node_kind many
 root n (cite t) = record {
   number = n;
-  value = pack cite_kind n 1;
+  value = pack Citation n 1;
   after = refl;
   ahead = cite_packed n;
   sized = refl;
   counted = omega arith;
   is = refl;
-  leaf = λ h. (refl, refl, refl);
-  inner = λ h. absurd (h refl);
+  counts = refl;
 }
-root n (Then es) = record {
+root n (expr.Then es) = record {
   number = many es;
-  value = node_row then_kind es;
+  value = node_row Then es;
   after = refl;
-  ahead = node-packed then_kind n es;
+  ahead = then_packed n es;
   sized = refl;
   counted = omega arith;
   is = refl;
-  leaf = λ h. absurd (omega arith);
-  inner = λ h. refl;
+  counts = refl;
 }
 root n (join o es) = record {
   number = many es;
-  value = node_row (op_kind o) es;
+  value = node_row (sign_kind o) es;
   after = refl;
-  ahead = node-packed (op_kind o) n es;
+  ahead = join_packed o n es;
   sized = refl;
   counted = omega arith;
   is = refl;
-  leaf = λ h. absurd (sign_some o h);
-  inner = λ h. refl;
+  counts = sign_counts o (many es);
 }

@@ -13,10 +13,12 @@ use Rattle.grammar.specs.Expr.{Expr, none, ◌◂◌}
 use Rattle.grammar.specs.Parse.{parse}
 use Rattle.grammar.specs.Rows.{rows, rows_of, span, spans, rows_span}
 use Rattle.grammar.specs.Reading.{citation_limit}
+use Rattle.grammar.specs.declared.NodeKind.TheVariants.{Citation}
 use Rattle.parser.specs.Packed.{packed}
 use Rattle.parser.specs.Answer.{cites_in, parsed_kinds, rows_over}
 use Rattle.parser.specs.Tokens.{from}
 use Rattle.parser.specs.States.{Held, Ready, ChainSays, Stand, Placed}
+use Rattle.lexer.specs.declared.TokenKind.{TokenKind}
 use Rattle.parser.specs.declared.Pos.{Pos}
 use Rattle.parser.specs.declared.Row.{Row}
 use Rattle.parser.proofs.Steps.{parse_done, parse_left_over, parse_fails}
@@ -25,16 +27,16 @@ use Rattle.parser.proofs.Orders.{many_one, rows_one, span_one, packed-length}
 
 -- where reading starts
 abbrev pub origin : Pos
-origin = record { at = 0; rows = 0; cites = 0; kind = 0; kids = 0 }
+origin = record { at = 0; rows = 0; cites = 0; kind = Citation; kids = 0 }
 
-pub ready_first : (s : List ℕ) (room : ℕ) → length s ≤ text_limit → cites_in s ≤ citation_limit → 2 * cites_in s ≤ room + 1 → Ready s room origin
+pub ready_first : (s : List TokenKind) (room : ℕ) → length s ≤ text_limit → cites_in s ≤ citation_limit → 2 * cites_in s ≤ room + 1 → Ready s room origin
 ready_first s room a b c = record { short = a; inside = omega arith; few = omega arith; space = omega arith }
 
 -- what `parse_tokens` says of kinds: its answer, and the rows before and after
-abbrev Says : (s : List ℕ) → Result ℕ Refusal → (l new : List Row) → Type 0
+abbrev Says : (s : List TokenKind) → Result ℕ Refusal → (l new : List Row) → Type 0
 Says s r l new = (r ≡ map_ok span (parsed_kinds s)) × (new ≡ rows_over (parsed_kinds s) l)
 
-module _ (s : List ℕ) where
+module _ (s : List TokenKind) where
   parsed_is : parsed_kinds s ≡ parse (from s 0)
   unfolding parsed_kinds from
   parsed_is = refl

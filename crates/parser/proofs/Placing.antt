@@ -1,17 +1,15 @@
 -- From postorder to the order of the tree: the last tree and those before it. Assumes nothing.
 use mathlib.Core.Path.{◌≡◌, refl, sym, ap, ◌∙◌, subst}
-use mathlib.Core.Bool.{Bool, true, false, cond}
 use mathlib.Core.List.{List, [], ◌∷◌, ◌++◌, append_assoc}
 use Prim.Native.Nat.{ℕ, suc, ◌+◌, ◌-◌, ◌≤◌, ◌<◌}
 use native.Mathlib.Omega.{arith}
-use lib.Dec.{eqb}
 use lib.ListN.{length, get_or, take, drop, set, take-append-drop}
 use lib.Seq.{take-take, drop_at, take-suc-set, take-append-le, drop-set-lt, length-take-le}
-use borrow.Author.Tests.{eqb-true, eqb-false}
 use Rattle.grammar.specs.Expr.{Expr, Exprs, none, more, ◌◂◌, ◌▸◌, citations_of, count}
 use Rattle.grammar.specs.Rows.{many, rows, rows_of, span, spans, children}
 use Rattle.grammar.specs.Shape.{rows_append}
-use Rattle.parser.specs.Packed.{pack, packed, kind_of_root}
+use Rattle.grammar.specs.declared.NodeKind.TheVariants.{Citation}
+use Rattle.parser.specs.Packed.{pack, packed, child_count}
 use Rattle.parser.specs.States.{Held, Stand, Placed}
 use Rattle.parser.specs.declared.Row.{Row}
 use Rattle.parser.proofs.Orders.{spans_append, packed_append, rows_one, span_one, Last, last_of, Root, root}
@@ -67,27 +65,19 @@ module _ (work : List Row) (top m end : ℕ) (t : Stand work top m end) (some : 
   top_is : top ≡ mid + span e
   top_is = omega (arith, last.sized, span_one e)
 
-  value_is : get_or work (top - 1) (pack 0 0 0) ≡ r.value
+  value_is : get_or work (top - 1) (pack Citation 0 0) ≡ r.value
   value_is = held_root mid next work top t.cites e last
 
   size_is : r.value.size ≡ span e
   size_is = ap (λ (x : Row). x.size) r.is
 
-  abbrev child_count : Row → ℕ
-  child_count v = cond (eqb v.kind 0) 0 v.number
+  abbrev kids_of : Row → ℕ
+  kids_of v = child_count v.kind v.number
 
-  no-children : many none ≡ 0
-  unfolding many
-  no-children = refl
+  kids_is : kids_of r.value ≡ many (children e)
+  kids_is = ap kids_of r.is ∙ r.counts
 
-  kids_is : child_count r.value ≡ many (children e)
-  kids_is = ap child_count r.is ∙ go (eqb (kind_of_root e) 0) refl
-    where
-      go : (b : Bool) → eqb (kind_of_root e) 0 ≡ b → child_count (pack (kind_of_root e) r.number (span e)) ≡ many (children e)
-      go true z = rw z (sym no-children ∙ ap many (sym (r.leaf (eqb-true (kind_of_root e) 0 z)).1))
-      go false z = rw z (r.inner (eqb-false (kind_of_root e) 0 z))
-
-  module _ (row : Row) (z kids : ℕ) (row_is : row ≡ get_or work (top - 1) (pack 0 0 0)) (z-is : z ≡ row.size) (kids-are : kids ≡ child_count row) where
+  module _ (row : Row) (z kids : ℕ) (row_is : row ≡ get_or work (top - 1) (pack Citation 0 0)) (z-is : z ≡ row.size) (kids-are : kids ≡ kids_of row) where
     row-value : row ≡ r.value
     row-value = row_is ∙ value_is
 
@@ -104,7 +94,7 @@ module _ (work : List Row) (top m end : ℕ) (t : Stand work top m end) (some : 
       first = next;
       cites = next + length (citations_of (children e));
       held = held_children mid next work top t.cites e last;
-      number = sym (kids-are ∙ ap child_count row-value ∙ kids_is);
+      number = sym (kids-are ∙ ap kids_of row-value ∙ kids_is);
       fits = omega (arith, all, t.fits, r.sized);
     }
 

@@ -1,10 +1,9 @@
 -- Steps of reading: atoms, juxtapositions, chains. Assumes nothing.
-use Rattle.std.specs.Prelude.{Ok, Err}
+use Rattle.std.specs.Prelude.{Ok, Err, None}
 use mathlib.Core.Path.{◌≡◌, refl, ap, ◌∙◌}
 use mathlib.Core.Bool.{true, false, true≢false, false≢true}
 use mathlib.Core.List.{List, [], ◌∷◌}
 use Prim.Native.Nat.{ℕ}
-use native.Mathlib.Omega.{arith}
 use Rattle.refusal.specs.declared.Refusal.{Refusal}
 use Rattle.refusal.specs.declared.Refusal.TheVariants.{MissingOperand, Parentheses}
 use Rattle.grammar.specs.Expr.{Op, And, Or, Xor, Expr, Exprs, cite, join, none, more, ◌◂◌, ◌⧺◌, ◌▸◌}
@@ -13,7 +12,6 @@ use Rattle.grammar.specs.Lex.{Tok, cited, op, opening, closing}
 use Rattle.grammar.specs.Parse.{same, gather, lead, chain, whole, led, grow, Left, start, after, Opens, top, within, value, read, parse}
 use Rattle.grammar.specs.Steps.{Ends, resume}
 use Rattle.grammar.proofs.Steps.{settled}
-use Rattle.grammar.specs.Rows.{op_kind}
 use Rattle.parser.specs.Tokens.{op_ahead, operand_ahead}
 use Rattle.parser.specs.Reading.{Due, Stops, Atom, NoAtom, Run, Jux, NoJux, Waits, Links, Chain, NoChain}
 
@@ -42,17 +40,11 @@ none_due (op o ∷ ts) = tt
 none_due (opening ∷ ts) = tt
 none_due (closing ∷ ts) = tt
 
-sign_pos : (o : Op) → op_kind o ≡ 0 → ⊥
-unfolding op_kind
-sign_pos And h = omega arith
-sign_pos Or h = omega arith
-sign_pos Xor h = omega arith
-
-pub stops_if : (ts : List Tok) → Ends ts → op_ahead ts ≡ 0 → Stops ts
+pub stops_if : (ts : List Tok) → Ends ts → None ≡ op_ahead ts → Stops ts
 unfolding op_ahead
 stops_if [] q h = tt
 stops_if (cited t ∷ ts) q h = absurd q
-stops_if (op o ∷ ts) q h = absurd (sign_pos o h)
+stops_if (op o ∷ ts) q h = absurd cc
 stops_if (opening ∷ ts) q h = absurd q
 stops_if (closing ∷ ts) q h = tt
 

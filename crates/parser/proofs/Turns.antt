@@ -1,24 +1,27 @@
 -- The parser's turns: what was read and written before, and after. Assumes nothing.
-use Rattle.std.specs.Prelude.{Ok, Err}
+use Rattle.std.specs.Prelude.{Ok, Err, Some, None}
 use mathlib.Core.Path.{◌≡◌, refl, sym, ap, ◌∙◌, subst}
-use mathlib.Core.Bool.{Bool, true, false, cond}
+use mathlib.Core.Bool.{true, false}
 use mathlib.Core.List.{List, [], ◌∷◌, ◌++◌}
-use Prim.Native.Nat.{ℕ, zero, suc, ◌+◌, ◌-◌, ◌*◌, ◌≤◌, ◌<◌}
+use Prim.Native.Nat.{ℕ, suc, ◌+◌, ◌-◌, ◌*◌, ◌≤◌, ◌<◌}
 use native.Mathlib.Omega.{arith}
-use lib.Dec.{eqb}
 use lib.ListN.{length, get_or, set}
-use borrow.Author.Tests.{eqb-true, eqb-false, ne_eqb}
 use Rattle.refusal.specs.declared.Refusal.{Refusal}
 use Rattle.refusal.specs.declared.Refusal.TheVariants.{MissingOperand, Parentheses}
 use Rattle.grammar.specs.Expr.{Op, And, Or, Xor, Expr, Exprs, cite, Then, join, none, more, ◌◂◌, ◌⧺◌, ◌▸◌, citations, citations_of, count}
 use Rattle.grammar.specs.Lex.{op}
 use Rattle.grammar.specs.Parse.{same, gather, led}
-use Rattle.grammar.specs.Rows.{then_kind, op_kind, many, span, spans, children}
+use Rattle.grammar.specs.Rows.{many, span, spans, children}
 use Rattle.grammar.specs.Reading.{citation_limit}
-use Rattle.parser.specs.Packed.{pack, kind_of_root, operands, node_row, postorder, postorders}
+use Rattle.grammar.specs.Kinds.{sign_kind, node_kind}
+use Rattle.grammar.specs.declared.NodeKind.{NodeKind}
+use Rattle.grammar.specs.declared.NodeKind.TheVariants as node
+use Rattle.parser.specs.Packed.{pack, operands, node_row, postorder, postorders}
 use Rattle.parser.specs.Tokens.{from, op_ahead, operand_ahead}
 use Rattle.parser.specs.Reading.{Run, Jux, Waits, Links}
-use Rattle.parser.specs.States.{Held, Within, Tree, Ready, Front, AtomSays, JuxSays, ChainSays, Running, Before, After, Whole, Turn, noded, past, led_pos, grown_pos, noded_rows, grown_rows}
+use Rattle.parser.specs.States.{Held, Within, Tree, Ready, Front, AtomSays, JuxSays, ChainSays, Running, Before, After, noded, past, noded_rows, Led, own, other, Grown, again, another}
+use Rattle.lexer.specs.declared.TokenKind.{TokenKind}
+use Rattle.lexer.specs.declared.TokenKind.TheVariants.{Citation, Opening}
 use Rattle.parser.specs.declared.Pos.{Pos}
 use Rattle.parser.specs.declared.Row.{Row}
 use Rattle.parser.proofs.Steps.{ends-if, stops_if, atom_cite, atom_group, atom_unclosed, atom_inner, atom_missing, run-first, run_more, run_fails, run_ends, jux_fails, chain_fails, chain_lead, chain_led, chain_operand, operand_fails, chain_again, chain_other, chain_whole, same_self}
@@ -28,7 +31,7 @@ use Rattle.parser.proofs.Holding.{front_less, front_set, held_cite, held_more, h
 
 -- numbers
 
-module _ (s : List ℕ) (p : Pos) where
+module _ (s : List TokenKind) (p : Pos) where
   -- reading may go on
   pub ready_on : (room now : ℕ) (q : Pos) (kids : ℕ) → Ready s room p → now ≡ room → Within s p q.at q.rows q.cites kids → Ready s now q
   ready_on room now q kids r e w = record {
@@ -67,12 +70,12 @@ module _ (s : List ℕ) (p : Pos) where
   }
 
 -- a tree has rows
-pub tree_grew : (s : List ℕ) (p : Pos) (work : List Row) (q : Pos) (e : Expr) → Tree s p work q e → p.rows < q.rows
+pub tree_grew : (s : List TokenKind) (p : Pos) (work : List Row) (q : Pos) (e : Expr) → Tree s p work q e → p.rows < q.rows
 tree_grew s p work q e t = omega (arith, t.held.sized, span_one e, (root p.cites e).sized)
 
 -- a node of the operands that wait
 
-module _ (s : List ℕ) (p : Pos) (work : List Row) (q : Pos) (es : Exprs)
+module _ (s : List TokenKind) (p : Pos) (work : List Row) (q : Pos) (es : Exprs)
     (h : Held p.rows p.cites work q.rows q.cites es) (w : Within s p q.at q.rows q.cites q.kids)
     (kidded : q.kids ≡ many es) (two : 2 ≤ q.kids) (room : q.rows < length work) where
   row_is : pack q.kind q.kids (q.rows + 1 - p.rows) ≡ node_row q.kind es
@@ -81,7 +84,7 @@ module _ (s : List ℕ) (p : Pos) (work : List Row) (q : Pos) (es : Exprs)
       ap (λ m. pack q.kind m (q.rows + 1 - p.rows)) kidded ∙ ap (λ m. pack q.kind (many es) m) z
 
   made : (e : Expr) → postorder p.cites e ≡ postorders p.cites es ++ (node_row q.kind es ∷ []) → span e ≡ suc (spans es)
-      → count e ≡ length (citations_of es) → kind_of_root e ≡ q.kind → operands e ≡ many es → Tree s p (noded_rows work p.rows q) (noded q) e
+      → count e ≡ length (citations_of es) → node_kind e ≡ q.kind → operands e ≡ many es → Tree s p (noded_rows work p.rows q) (noded q) e
   made e o z c k m = record {
     held = held_node p.rows p.cites work q.rows q.cites es h q.kind _ e room row_is o z c;
     within = record {
@@ -99,27 +102,27 @@ module _ (s : List ℕ) (p : Pos) (work : List Row) (q : Pos) (es : Exprs)
     wide = λ _. two;
   }
 
-  made_then : q.kind ≡ then_kind → Tree s p (noded_rows work p.rows q) (noded q) (Then es)
-  unfolding postorder span citations kind_of_root children
+  made_then : q.kind ≡ node.Then → Tree s p (noded_rows work p.rows q) (noded q) (Then es)
+  unfolding postorder span citations node_kind children
   made_then k = made (Then es) (ap (λ x. postorders p.cites es ++ (node_row x es ∷ [])) (sym k)) refl refl (sym k) refl
 
-  made_join : (o : Op) → q.kind ≡ op_kind o → Tree s p (noded_rows work p.rows q) (noded q) (join o es)
-  unfolding postorder span citations kind_of_root children
+  made_join : (o : Op) → q.kind ≡ sign_kind o → Tree s p (noded_rows work p.rows q) (noded q) (join o es)
+  unfolding postorder span citations node_kind children
   made_join o k = made (join o es) (ap (λ x. postorders p.cites es ++ (node_row x es ∷ [])) (sym k)) refl refl (sym k) refl
 
 -- atoms
 
-module _ (s : List ℕ) (p : Pos) (old : List Row) where
+module _ (s : List TokenKind) (p : Pos) (old : List Row) where
   pub atom_at_end : length s ≤ p.at → AtomSays s p old old (Err MissingOperand)
   atom_at_end h = rw (from_end s p.at (omega arith)) (atom_missing [] tt)
 
   module _ (here : p.at < length s) where
-    pub atom_none : ¬ (get_or s p.at 0 ≡ 5) → ¬ (get_or s p.at 0 ≡ 0) → AtomSays s p old old (Err MissingOperand)
+    pub atom_none : ¬ (get_or s p.at Citation ≡ Opening) → ¬ (get_or s p.at Citation ≡ Citation) → AtomSays s p old old (Err MissingOperand)
     atom_none h k = atom_missing (from s p.at) (no_operand s p.at here k h)
 
-    pub atom_cited : get_or s p.at 0 ≡ 0 → p.rows < length old → (v : Row) → v ≡ pack 0 p.cites 1
-        → AtomSays s p old (set old p.rows v) (Ok (record { at = p.at + 1; rows = p.rows + 1; cites = p.cites + 1; kind = 0; kids = 0 }))
-    unfolding kind_of_root children many
+    pub atom_cited : get_or s p.at Citation ≡ Citation → p.rows < length old → (v : Row) → v ≡ pack node.Citation p.cites 1
+        → AtomSays s p old (set old p.rows v) (Ok (record { at = p.at + 1; rows = p.rows + 1; cites = p.cites + 1; kind = node.Citation; kids = 0 }))
+    unfolding node_kind children many
     atom_cited k l v e = (
       cite [],
       rw (cite_here s p.at here k) atom_cite,
@@ -142,7 +145,7 @@ module _ (s : List ℕ) (p : Pos) (old : List Row) where
       front_set p.rows old p.rows v (omega arith),
     )
 
-    module _ (open_at : get_or s p.at 0 ≡ 5) (new : List Row) where
+    module _ (open_at : get_or s p.at Citation ≡ Opening) (new : List Row) where
       abbrev inner : Pos
       inner = past p p.kind p.rows p.kids
 
@@ -200,7 +203,7 @@ gather_more none e h = absurd (h refl)
 gather_more (more f none) e h = refl
 gather_more (more f (more g run)) e h = refl
 
-module _ (s : List ℕ) (p : Pos) where
+module _ (s : List TokenKind) (p : Pos) where
   pub jux_passes : (old new : List Row) (why : Refusal) → AtomSays s p old new (Err why) → JuxSays s p old new (Err why)
   jux_passes old new why g = jux_fails g
 
@@ -269,7 +272,7 @@ module _ (s : List ℕ) (p : Pos) where
             f,
           )
 
-      pub jux_many : ¬ (kids ≡ 1) → q.rows < length work → (m : Pos) → m ≡ record { at = q.at; rows = q.rows; cites = q.cites; kind = 1; kids = kids }
+      pub jux_many : ¬ (kids ≡ 1) → q.rows < length work → (m : Pos) → m ≡ record { at = q.at; rows = q.rows; cites = q.cites; kind = node.Then; kids = kids }
           → JuxSays s p old (noded_rows work p.rows m) (Ok (noded m))
       jux_many k room m e =
           let total : many (run.before ▸ run.last) ≡ many run.before + 1 = many_append run.before (run.last ◂ none) ∙ ap (λ x. many run.before + x) (many_one run.last) in
@@ -277,33 +280,33 @@ module _ (s : List ℕ) (p : Pos) where
           rw e (
             Then (run.before ▸ run.last),
             subst (λ x. Jux (from s p.at) (from s q.at) x) (gather_more run.before run.last some) (run_ends run.goes (ends-if (from s q.at) (sym b))),
-            made_then s p work (record { at = q.at; rows = q.rows; cites = q.cites; kind = 1; kids = kids }) (run.before ▸ run.last)
+            made_then s p work (record { at = q.at; rows = q.rows; cites = q.cites; kind = node.Then; kids = kids }) (run.before ▸ run.last)
                 run.held run.within (run.number ∙ sym total) (omega (arith, run.number)) room refl,
             front_set p.rows work q.rows _ run.within.above ∙ f,
           )
 
 -- chains
 
-pub sign_some : (o : Op) → ¬ (op_kind o ≡ 0)
-unfolding op_kind
-sign_some And h = omega arith
-sign_some Or h = omega arith
-sign_some Xor h = omega arith
+sign_some : (o : Op) → ¬ (sign_kind o ≡ node.Citation)
+unfolding sign_kind
+sign_some And h = cc
+sign_some Or h = cc
+sign_some Xor h = cc
 
-same_sign : (a b : Op) → op_kind a ≡ op_kind b → a ≡ b
-unfolding op_kind
+same_sign : (a b : Op) → sign_kind a ≡ sign_kind b → a ≡ b
+unfolding sign_kind
 same_sign And And h = refl
-same_sign And Or h = absurd (omega arith)
-same_sign And Xor h = absurd (omega arith)
-same_sign Or And h = absurd (omega arith)
+same_sign And Or h = absurd cc
+same_sign And Xor h = absurd cc
+same_sign Or And h = absurd cc
 same_sign Or Or h = refl
-same_sign Or Xor h = absurd (omega arith)
-same_sign Xor And h = absurd (omega arith)
-same_sign Xor Or h = absurd (omega arith)
+same_sign Or Xor h = absurd cc
+same_sign Xor And h = absurd cc
+same_sign Xor Or h = absurd cc
 same_sign Xor Xor h = refl
 
-other_sign : (a b : Op) → ¬ (op_kind a ≡ op_kind b) → same a b ≡ false
-unfolding op_kind same
+other_sign : (a b : Op) → ¬ (sign_kind a ≡ sign_kind b) → same a b ≡ false
+unfolding sign_kind same
 other_sign And And h = absurd (h refl)
 other_sign And Or h = refl
 other_sign And Xor h = refl
@@ -314,53 +317,50 @@ other_sign Xor And h = refl
 other_sign Xor Or h = refl
 other_sign Xor Xor h = absurd (h refl)
 
-not-then : (o : Op) → ¬ (then_kind ≡ op_kind o)
-unfolding op_kind
-not-then And h = omega arith
-not-then Or h = omega arith
-not-then Xor h = omega arith
+not-then : (o : Op) → ¬ (node.Then ≡ sign_kind o)
+unfolding sign_kind
+not-then And h = cc
+not-then Or h = cc
+not-then Xor h = cc
 
 -- a lead of the operator's kind is a node of it
-led_own : (e : Expr) (o : Op) → kind_of_root e ≡ op_kind o → led e o ≡ children e
-unfolding kind_of_root led children
+led_own : (e : Expr) (o : Op) → node_kind e ≡ sign_kind o → led e o ≡ children e
+unfolding node_kind led children
 led_own (cite t) o h = absurd (sign_some o (sym h))
 led_own (Then es) o h = absurd (not-then o h)
 led_own (join a es) o h = rw (same_sign a o h, same_self o)
 
-led_other : (e : Expr) (o : Op) → ¬ (kind_of_root e ≡ op_kind o) → led e o ≡ e ◂ none
-unfolding kind_of_root led
+led_other : (e : Expr) (o : Op) → ¬ (node_kind e ≡ sign_kind o) → led e o ≡ e ◂ none
+unfolding node_kind led
 led_other (cite t) o h = refl
 led_other (Then es) o h = refl
 led_other (join a es) o h = rw (other_sign a o h)
 
 -- a node cites what its operands cite
-own_cites : (e : Expr) → ¬ (kind_of_root e ≡ 0) → count e ≡ length (citations_of (children e))
-unfolding kind_of_root citations children
+own_cites : (e : Expr) → ¬ (node_kind e ≡ node.Citation) → count e ≡ length (citations_of (children e))
+unfolding node_kind citations children
 own_cites (cite t) h = absurd (h refl)
 own_cites (Then es) h = refl
 own_cites (join o es) h = refl
 
-module _ (s : List ℕ) (p : Pos) where
+module _ (s : List TokenKind) (p : Pos) where
   pub chain_passes : (old new : List Row) (why : Refusal) → JuxSays s p old new (Err why) → ChainSays s p old new (Err why)
   chain_passes old new why g = chain_fails g
 
-  pub chain_alone : (old new : List Row) (q : Pos) → JuxSays s p old new (Ok q) → 0 ≡ op_ahead (from s q.at) → ChainSays s p old new (Ok q)
-  chain_alone old new q g z = (g.0, chain_lead g.1 (stops_if (from s q.at) g.1.ends (sym z)), g.2, g.3)
+  pub chain_alone : (old new : List Row) (q : Pos) → JuxSays s p old new (Ok q) → None ≡ op_ahead (from s q.at) → ChainSays s p old new (Ok q)
+  chain_alone old new q g z = (g.0, chain_lead g.1 (stops_if (from s q.at) g.1.ends z), g.2, g.3)
 
   -- past the operator after a lead
   module _ (work : List Row) (q : Pos) (e : Expr) (goes : Jux (from s p.at) (from s q.at) e) (t : Tree s p work q e)
-      (k : ℕ) (is : k ≡ op_ahead (from s q.at)) (some : ¬ (k ≡ 0)) where
-    abbrev sign_at : Sign (from s q.at) (from s (q.at + 1)) (op_ahead (from s q.at))
-    sign_at = sign_here s q.at (λ z. some (is ∙ z))
+      (k : NodeKind) (is : Some k ≡ op_ahead (from s q.at)) where
+    abbrev sign_at : Sign (from s q.at) (from s (q.at + 1)) k
+    sign_at = sign_here s q.at k is
 
     abbrev o : Op
     o = sign_at.sign
 
-    kind_is_lem : op_kind o ≡ k
-    kind_is_lem = sign_at.kind ∙ sym is
-
     here : q.at < length s
-    here = op_inside s q.at (λ z. some (is ∙ z))
+    here = op_inside s q.at k is
 
     waits : Waits (from s p.at) (from s (q.at + 1)) o (led e o)
     waits = chain_led (subst (λ x. Jux (from s p.at) x e) sign_at.is goes)
@@ -368,11 +368,11 @@ module _ (s : List ℕ) (p : Pos) where
     rows_pos : p.rows < q.rows
     rows_pos = tree_grew s p work q e t
 
-    own : q.kind ≡ k → Before s p work (past q k (q.rows - 1) q.kids)
-    own h =
+    led_own_before : q.kind ≡ k → Before s p work (past q q.kind (q.rows - 1) q.kids)
+    led_own_before h =
         let w = t.within in
-        let root_is : kind_of_root e ≡ op_kind o = sym t.kinded ∙ h ∙ sym kind_is_lem in
-        let inner : ¬ (kind_of_root e ≡ 0) = λ z. some (sym kind_is_lem ∙ sym root_is ∙ z) in
+        let root_is : node_kind e ≡ sign_kind o = sym t.kinded ∙ h ∙ sign_at.kind in
+        let inner : ¬ (node_kind e ≡ node.Citation) = λ z. sign_some o (sym root_is ∙ z) in
         let ch = held_children p.rows p.cites work q.rows q.cites e t.held in
         record {
           sign = o;
@@ -387,15 +387,15 @@ module _ (s : List ℕ) (p : Pos) where
             room = omega (arith, t.room, rows_pos);
             few = t.few;
           };
-          kinded = sym kind_is_lem;
+          kinded = h ∙ sign_at.kind;
           kidded = t.kidded;
-          some = omega (arith, t.wide (λ z. some (sym h ∙ z)));
+          some = omega (arith, t.wide (λ z. inner (sym t.kinded ∙ z)));
         }
 
-    other : ¬ (q.kind ≡ k) → Before s p work (past q k q.rows 1)
-    other h =
+    led_other_before : ¬ (q.kind ≡ k) → Before s p work (past q k q.rows 1)
+    led_other_before h =
         let w = t.within in
-        let root-not : ¬ (kind_of_root e ≡ op_kind o) = λ z. h (t.kinded ∙ z ∙ kind_is_lem) in
+        let root-not : ¬ (node_kind e ≡ sign_kind o) = λ z. h (t.kinded ∙ z ∙ sym sign_at.kind) in
         record {
           sign = o;
           es = e ◂ none;
@@ -409,21 +409,18 @@ module _ (s : List ℕ) (p : Pos) where
             room = w.room;
             few = w.few;
           };
-          kinded = sym kind_is_lem;
+          kinded = sign_at.kind;
           kidded = sym (many_one e);
           some = omega arith;
         }
 
-    pub led-before : Before s p work (led_pos q k)
-    led-before = go (eqb q.kind k) refl
-      where
-        go : (b : Bool) → eqb q.kind k ≡ b → Before s p work (cond b (past q k (q.rows - 1) q.kids) (past q k q.rows 1))
-        go true z = own (eqb-true q.kind k z)
-        go false z = other (eqb-false q.kind k z)
+    led-before : (r : Pos) → Led q k r → Before s p work r
+    led-before r (own h) = led_own_before h
+    led-before r (other h) = led_other_before h
 
-  pub chain_starts : (old new : List Row) (q : Pos) → JuxSays s p old new (Ok q) → (k : ℕ) → k ≡ op_ahead (from s q.at) → ¬ (k ≡ 0)
-      → Before s p new (led_pos q k) × Front p.rows old new
-  chain_starts old new q g k is some = (led-before new q g.0 g.1 g.2 k is some, g.3)
+  pub chain_starts : (old new : List Row) (q : Pos) → JuxSays s p old new (Ok q) → (k : NodeKind) → Some k ≡ op_ahead (from s q.at) → (r : Pos) → Led q k r
+      → Before s p new r × Front p.rows old new
+  chain_starts old new q g k is r h = (led-before new q g.0 g.1 g.2 k is r h, g.3)
 
   module _ (work : List Row) (q : Pos) (b : Before s p work q) where
     pub chain_breaks : (old new : List Row) (why : Refusal) → JuxSays s q work new (Err why) → ChainSays s p old new (Err why)
@@ -452,29 +449,20 @@ module _ (s : List ℕ) (p : Pos) where
     tree : Tree s p (noded_rows work p.rows q) (noded q) (join a.sign a.es)
     tree = made_join s p work q a.es a.held a.within a.kidded a.some room a.sign a.kinded
 
-    kind_some : ¬ (q.kind ≡ 0)
-    kind_some z = sign_some a.sign (sym a.kinded ∙ z)
-
-    pub kind_pos : 1 ≤ q.kind
-    kind_pos = let k = kind_some in omega arith
-
-    module _ (k : ℕ) (is : k ≡ op_ahead (from s q.at)) (some : ¬ (k ≡ 0)) where
-      abbrev sign_next : Sign (from s q.at) (from s (q.at + 1)) (op_ahead (from s q.at))
-      sign_next = sign_here s q.at (λ z. some (is ∙ z))
-
-      kind_next : op_kind sign_next.sign ≡ k
-      kind_next = sign_next.kind ∙ sym is
+    module _ (k : NodeKind) (is : Some k ≡ op_ahead (from s q.at)) where
+      abbrev sign_next : Sign (from s q.at) (from s (q.at + 1)) k
+      sign_next = sign_here s q.at k is
 
       here_next : q.at < length s
-      here_next = op_inside s q.at (λ z. some (is ∙ z))
+      here_next = op_inside s q.at k is
 
       links : Links (from s p.at) (op sign_next.sign ∷ from s (q.at + 1)) a.sign a.es
       links = subst (λ x. Links (from s p.at) x a.sign a.es) sign_next.is a.goes
 
-      again : q.kind ≡ k → Before s p work (past q k q.rows q.kids)
-      again h =
+      goes_on : q.kind ≡ k → Before s p work (past q q.kind q.rows q.kids)
+      goes_on h =
           let w = a.within in
-          let sign-is : sign_next.sign ≡ a.sign = same_sign sign_next.sign a.sign (kind_next ∙ sym h ∙ a.kinded) in
+          let sign-is : sign_next.sign ≡ a.sign = same_sign sign_next.sign a.sign (sym sign_next.kind ∙ sym h ∙ a.kinded) in
           record {
             sign = a.sign;
             es = a.es;
@@ -488,15 +476,15 @@ module _ (s : List ℕ) (p : Pos) where
               room = w.room;
               few = w.few;
             };
-            kinded = sym h ∙ a.kinded;
+            kinded = a.kinded;
             kidded = a.kidded;
             some = omega (arith, a.some);
           }
 
-      another : ¬ (q.kind ≡ k) → Before s p (noded_rows work p.rows q) (past q k (q.rows + 1) 1)
-      another h =
+      begins : ¬ (q.kind ≡ k) → Before s p (noded_rows work p.rows q) (past q k (q.rows + 1) 1)
+      begins h =
           let w = tree.within in
-          let not-sign : same a.sign sign_next.sign ≡ false = other_sign a.sign sign_next.sign (λ z. h (a.kinded ∙ z ∙ kind_next)) in
+          let not-sign : same a.sign sign_next.sign ≡ false = other_sign a.sign sign_next.sign (λ z. h (a.kinded ∙ z ∙ sym sign_next.kind)) in
           record {
             sign = sign_next.sign;
             es = join a.sign a.es ◂ none;
@@ -510,55 +498,15 @@ module _ (s : List ℕ) (p : Pos) where
               room = w.room;
               few = w.few;
             };
-            kinded = sym kind_next;
+            kinded = sign_next.kind;
             kidded = sym (many_one (join a.sign a.es));
             some = omega arith;
           }
 
-      chosen : (b : Bool) → eqb q.kind k ≡ b
-          → Before s p (cond b work (noded_rows work p.rows q)) (cond b (past q k q.rows q.kids) (cond (eqb k 0) (noded q) (past q k (q.rows + 1) 1)))
-      chosen true z = again (eqb-true q.kind k z)
-      chosen false z = rw (ne_eqb k 0 some) (another (eqb-false q.kind k z))
+      pub chain_grows : (new : List Row) (r : Pos) → Grown work p.rows q k new r → Before s p new r × Front p.rows work new × (r.at ≡ q.at + 1)
+      chain_grows new r (again h) = (goes_on h, refl, refl)
+      chain_grows new r (another h) = (begins h, front_set p.rows work q.rows _ a.within.above, refl)
 
-      grown : Before s p (grown_rows work p.rows q k) (grown_pos q k)
-      grown = chosen (eqb q.kind k) refl
-
-    ended : 0 ≡ op_ahead (from s q.at) → Whole s p (noded_rows work p.rows q) (noded q)
-    ended z = record {
-      tree = join a.sign a.es;
-      goes = chain_whole a.goes (stops_if (from s q.at) a.goes.ends (sym z));
-      made = tree;
-    }
-
-    pub chain_turns : (k : ℕ) → k ≡ op_ahead (from s q.at) → Turn s p (grown_rows work p.rows q k) k (grown_pos q k)
-    chain_turns zero is = rw (ne_eqb q.kind 0 kind_some) (ended is)
-    chain_turns (suc k) is = grown (suc k) is (λ z. omega arith)
-
-    pub chain_front : (k : ℕ) → Front p.rows work (grown_rows work p.rows q k)
-    chain_front k = go (eqb q.kind k)
-      where
-        go : (b : Bool) → Front p.rows work (cond b work (noded_rows work p.rows q))
-        go true = refl
-        go false = front_set p.rows work q.rows _ a.within.above
-
-  -- which turn it is
-  pub turn_before : (work : List Row) (k : ℕ) (q : Pos) → Turn s p work k q → ¬ (k ≡ 0) → Before s p work q
-  turn_before work zero q t h = absurd (h refl)
-  turn_before work (suc k) q t h = t
-
-  pub before_turn : (work : List Row) (k : ℕ) (q : Pos) → Before s p work q → ¬ (k ≡ 0) → Turn s p work k q
-  before_turn work zero q b h = absurd (h refl)
-  before_turn work (suc k) q b h = b
-
-  pub turn_whole : (old work : List Row) (k : ℕ) (q : Pos) → Turn s p work k q → k ≡ 0 → Front p.rows old work → ChainSays s p old work (Ok q)
-  turn_whole old work zero q t h f = (t.tree, t.goes, t.made, f)
-  turn_whole old work (suc k) q t h f = absurd (omega arith)
-
--- a chain past an operator has read more
-pub grown-later : (q : Pos) (k : ℕ) → q.at ≤ (grown_pos q k).at
-grown-later q k = go (eqb q.kind k) (eqb k 0)
-  where
-    go : (a b : Bool) → q.at ≤ (cond a (past q k q.rows q.kids) (cond b (noded q) (past q k (q.rows + 1) 1))).at
-    go true b = omega arith
-    go false true = omega arith
-    go false false = omega arith
+    pub chain_ends : (old : List Row) → None ≡ op_ahead (from s q.at) → Front p.rows old work → ChainSays s p old (noded_rows work p.rows q) (Ok (noded q))
+    chain_ends old z f =
+        (join a.sign a.es, chain_whole a.goes (stops_if (from s q.at) a.goes.ends z), tree, front_set p.rows work q.rows _ a.within.above ∙ f)

@@ -1,14 +1,18 @@
 -- What the parser's own functions say of the tokens read and the rows written. Assumes nothing.
-use Rattle.std.specs.Prelude.{◌≡◌, cond, List, ◌++◌, ℕ, zero, suc, ◌+◌, ◌-◌, ◌*◌, ◌≤◌, ◌<◌, eqb, length, take, drop, set, Result, Ok, Err}
+use Rattle.std.specs.Prelude.{◌≡◌, List, ◌++◌, ℕ, ◌+◌, ◌-◌, ◌*◌, ◌≤◌, ◌<◌, length, take, drop, set, Result, Ok, Err}
 use Rattle.refusal.specs.declared.Refusal.{Refusal}
 use Rattle.utf8.specs.Limits.{text_limit}
 use Rattle.grammar.specs.Expr.{Op, Expr, Exprs, none, ◌◂◌, ◌⧺◌, citations_of}
-use Rattle.grammar.specs.Rows.{op_kind, many, rows_of, spans}
+use Rattle.grammar.specs.Rows.{many, rows_of, spans}
 use Rattle.grammar.specs.Reading.{citation_limit}
-use Rattle.parser.specs.Packed.{pack, packed, kind_of_root, operands, postorders}
+use Rattle.grammar.specs.Kinds.{sign_kind, node_kind}
+use Rattle.grammar.specs.declared.NodeKind.{NodeKind}
+use Rattle.grammar.specs.declared.NodeKind.TheVariants.{Citation}
+use Rattle.parser.specs.Packed.{pack, packed, operands, postorders}
 use Rattle.parser.specs.Answer.{cites_in}
 use Rattle.parser.specs.Tokens.{from}
 use Rattle.parser.specs.Reading.{Atom, NoAtom, Run, Jux, NoJux, Waits, Links, Chain, NoChain}
+use Rattle.lexer.specs.declared.TokenKind.{TokenKind}
 use Rattle.parser.specs.declared.Pos.{Pos}
 use Rattle.parser.specs.declared.Row.{Row}
 
@@ -20,7 +24,7 @@ pub record Held (start first : ℕ) (work : List Row) (rows cites : ℕ) (es : E
   pub rowed : take rows work ≡ take start work ++ postorders first es
 
 -- how far reading is since p, `kids` operands waiting for their node
-pub record Within (s : List ℕ) (p : Pos) (at rows cites kids : ℕ) : Type 0 where
+pub record Within (s : List TokenKind) (p : Pos) (at rows cites kids : ℕ) : Type 0 where
   pub later : p.at < at
   pub inside : at ≤ length s
   pub above : p.rows ≤ rows
@@ -29,17 +33,17 @@ pub record Within (s : List ℕ) (p : Pos) (at rows cites kids : ℕ) : Type 0 w
   pub few : kids + p.cites ≤ cites
 
 -- one tree stands between p and q
-pub record Tree (s : List ℕ) (p : Pos) (work : List Row) (q : Pos) (e : Expr) : Type 0 where
+pub record Tree (s : List TokenKind) (p : Pos) (work : List Row) (q : Pos) (e : Expr) : Type 0 where
   pub held : Held p.rows p.cites work q.rows q.cites (e ◂ none)
   pub within : Within s p q.at q.rows q.cites 1
-  pub kinded : q.kind ≡ kind_of_root e
+  pub kinded : q.kind ≡ node_kind e
   pub kidded : q.kids ≡ operands e
   pub room : q.rows + q.kids + 2 * p.cites ≤ p.rows + 1 + 2 * q.cites
   pub few : q.kids + p.cites ≤ q.cites
-  pub wide : ¬ (q.kind ≡ 0) → 2 ≤ q.kids
+  pub wide : ¬ (q.kind ≡ Citation) → 2 ≤ q.kids
 
 -- where reading may start
-pub record Ready (s : List ℕ) (room : ℕ) (p : Pos) : Type 0 where
+pub record Ready (s : List TokenKind) (room : ℕ) (p : Pos) : Type 0 where
   pub short : length s ≤ text_limit
   pub inside : p.at ≤ length s
   pub few : p.cites + cites_in (drop p.at s) ≤ citation_limit
@@ -50,91 +54,77 @@ abbrev pub Front : ℕ → List Row → List Row → Type 0
 Front n old new = take n new ≡ take n old
 
 -- what `parse_atom` says
-abbrev pub AtomSays : List ℕ → Pos → List Row → List Row → Result Pos Refusal → Type 0
+abbrev pub AtomSays : List TokenKind → Pos → List Row → List Row → Result Pos Refusal → Type 0
 AtomSays s p old new (Ok q) = (e : Expr) × Atom (from s p.at) (from s q.at) e × Tree s p new q e × Front p.rows old new
 AtomSays s p old new (Err why) = NoAtom (from s p.at) why
 
 -- what `parse_juxtaposition` says
-abbrev pub JuxSays : List ℕ → Pos → List Row → List Row → Result Pos Refusal → Type 0
+abbrev pub JuxSays : List TokenKind → Pos → List Row → List Row → Result Pos Refusal → Type 0
 JuxSays s p old new (Ok q) = (e : Expr) × Jux (from s p.at) (from s q.at) e × Tree s p new q e × Front p.rows old new
 JuxSays s p old new (Err why) = NoJux (from s p.at) why
 
 -- what `parse_chain` says
-abbrev pub ChainSays : List ℕ → Pos → List Row → List Row → Result Pos Refusal → Type 0
+abbrev pub ChainSays : List TokenKind → Pos → List Row → List Row → Result Pos Refusal → Type 0
 ChainSays s p old new (Ok q) = (e : Expr) × Chain (from s p.at) (from s q.at) e × Tree s p new q e × Front p.rows old new
 ChainSays s p old new (Err why) = NoChain (from s p.at) why
 
 -- juxtaposed operands, the last of them as q says
-pub record Running (s : List ℕ) (p : Pos) (work : List Row) (q : Pos) (kids : ℕ) : Type 0 where
+pub record Running (s : List TokenKind) (p : Pos) (work : List Row) (q : Pos) (kids : ℕ) : Type 0 where
   pub before : Exprs
   pub last : Expr
   pub goes : Run (from s p.at) (from s q.at) (before ⧺ (last ◂ none))
   pub held : Held p.rows p.cites work q.rows q.cites (before ⧺ (last ◂ none))
   pub within : Within s p q.at q.rows q.cites kids
   pub number : kids ≡ many before + 1
-  pub kinded : q.kind ≡ kind_of_root last
+  pub kinded : q.kind ≡ node_kind last
   pub kidded : q.kids ≡ operands last
   pub room : kids ≡ 1 → q.rows + q.kids + 2 * p.cites ≤ p.rows + 1 + 2 * q.cites
   pub few : kids ≡ 1 → q.kids + p.cites ≤ q.cites
-  pub wide : ¬ (q.kind ≡ 0) → 2 ≤ q.kids
+  pub wide : ¬ (q.kind ≡ Citation) → 2 ≤ q.kids
 
 -- a chain before its next operand
-pub record Before (s : List ℕ) (p : Pos) (work : List Row) (q : Pos) : Type 0 where
+pub record Before (s : List TokenKind) (p : Pos) (work : List Row) (q : Pos) : Type 0 where
   pub sign : Op
   pub es : Exprs
   pub goes : Waits (from s p.at) (from s q.at) sign es
   pub held : Held p.rows p.cites work q.rows q.cites es
   pub within : Within s p q.at q.rows q.cites q.kids
-  pub kinded : q.kind ≡ op_kind sign
+  pub kinded : q.kind ≡ sign_kind sign
   pub kidded : q.kids ≡ many es
   pub some : 1 ≤ q.kids
 
 -- a chain after an operand
-pub record After (s : List ℕ) (p : Pos) (work : List Row) (q : Pos) : Type 0 where
+pub record After (s : List TokenKind) (p : Pos) (work : List Row) (q : Pos) : Type 0 where
   pub sign : Op
   pub es : Exprs
   pub goes : Links (from s p.at) (from s q.at) sign es
   pub held : Held p.rows p.cites work q.rows q.cites es
   pub within : Within s p q.at q.rows q.cites q.kids
-  pub kinded : q.kind ≡ op_kind sign
+  pub kinded : q.kind ≡ sign_kind sign
   pub kidded : q.kids ≡ many es
   pub some : 2 ≤ q.kids
-
--- a whole chain
-pub record Whole (s : List ℕ) (p : Pos) (work : List Row) (q : Pos) : Type 0 where
-  pub tree : Expr
-  pub goes : Chain (from s p.at) (from s q.at) tree
-  pub made : Tree s p work q tree
-
--- a chain at the operator of the kind `sign`, or whole if that is 0
-abbrev pub Turn : List ℕ → Pos → List Row → ℕ → Pos → Type 0
-Turn s p work zero q = Whole s p work q
-Turn s p work (suc k) q = Before s p work q
 
 -- the node of q's operands has its row
 abbrev pub noded : Pos → Pos
 noded q = record { at = q.at; rows = q.rows + 1; cites = q.cites; kind = q.kind; kids = q.kids }
 
 -- one token on, with this kind and so many rows and operands
-abbrev pub past : Pos → (kind rows kids : ℕ) → Pos
+abbrev pub past : Pos → NodeKind → (rows kids : ℕ) → Pos
 past q kind rows kids = record { at = q.at + 1; rows = rows; cites = q.cites; kind = kind; kids = kids }
-
--- what a lead gives to the chain of the operator after it: its own operands if it is a node of that operator, else itself
-abbrev pub led_pos : Pos → ℕ → Pos
-led_pos q sign = cond (eqb q.kind sign) (past q sign (q.rows - 1) q.kids) (past q sign q.rows 1)
-
--- the place of a chain after the operator `sign`: with its own it goes on, with another it is the first operand, without one it is whole
-abbrev pub grown_pos : Pos → ℕ → Pos
-grown_pos q sign =
-    cond (eqb q.kind sign) (past q sign q.rows q.kids) (cond (eqb sign 0) (noded q) (past q sign (q.rows + 1) 1))
 
 -- the rows with that of the node of q's operands, which begin at `start`
 abbrev pub noded_rows : List Row → ℕ → Pos → List Row
 noded_rows work start q = set work q.rows (pack q.kind q.kids (q.rows + 1 - start))
 
--- the rows of a chain after the operator `sign`
-abbrev pub grown_rows : List Row → ℕ → Pos → ℕ → List Row
-grown_rows work start q sign = cond (eqb q.kind sign) work (noded_rows work start q)
+-- past the operator after a lead: the chain's operands are the lead's own if it is a node of that operator, else the lead itself
+pub data Led (q : Pos) (sign : NodeKind) : Pos → Type 0 where
+  own : q.kind ≡ sign → Led q sign (past q q.kind (q.rows - 1) q.kids)
+  other : ¬ (q.kind ≡ sign) → Led q sign (past q sign q.rows 1)
+
+-- a chain past the operator `sign`, and the rows: with its own it goes on, of another it is the first operand
+pub data Grown (work : List Row) (start : ℕ) (q : Pos) (sign : NodeKind) : List Row → Pos → Type 0 where
+  again : q.kind ≡ sign → Grown work start q sign work (past q q.kind q.rows q.kids)
+  another : ¬ (q.kind ≡ sign) → Grown work start q sign (noded_rows work start q) (past q sign (q.rows + 1) 1)
 
 -- `count` trees stand in postorder before `top`, and their rows fit before `end`
 pub record Stand (work : List Row) (top count end : ℕ) : Type 0 where

@@ -1,30 +1,32 @@
 -- The tokens of kinds, with empty texts. Assumes nothing.
-use Rattle.std.specs.Prelude.{Bool, true, false, List, [], ◌∷◌, map, ℕ, zero, suc, drop}
-use Rattle.grammar.specs.Expr.{And, Or, Xor}
+use Rattle.std.specs.Prelude.{Bool, true, false, List, [], ◌∷◌, map, ℕ, drop, Option, Some, None}
+use Rattle.grammar.specs.Expr as expr
 use Rattle.grammar.specs.Lex.{Tok, cited, op, opening, closing}
-use Rattle.grammar.specs.Rows.{op_kind}
+use Rattle.grammar.specs.Kinds.{sign_kind}
+use Rattle.grammar.specs.declared.NodeKind.{NodeKind}
+use Rattle.lexer.specs.declared.TokenKind.{TokenKind}
+use Rattle.lexer.specs.declared.TokenKind.TheVariants.{Citation, And, Or, Xor, Opening, Closing}
 
--- the token of a kind; a citation's text is empty, and what is no kind closes
-unfoldable pub tok : ℕ → Tok
-tok zero = cited []
-tok (suc zero) = closing
-tok (suc (suc zero)) = op And
-tok (suc (suc (suc zero))) = op Or
-tok (suc (suc (suc (suc zero)))) = op Xor
-tok (suc (suc (suc (suc (suc zero))))) = opening
-tok (suc (suc (suc (suc (suc (suc n)))))) = closing
+-- the token of a kind; a citation's text is empty
+unfoldable pub tok : TokenKind → Tok
+tok Citation = cited []
+tok And = op expr.And
+tok Or = op expr.Or
+tok Xor = op expr.Xor
+tok Opening = opening
+tok Closing = closing
 
 -- the tokens from the place `at` on
-unfoldable pub from : List ℕ → ℕ → List Tok
+unfoldable pub from : List TokenKind → ℕ → List Tok
 from s at = map tok (drop at s)
 
--- the kind of the operator that follows, or 0
-unfoldable pub op_ahead : List Tok → ℕ
-op_ahead [] = 0
-op_ahead (cited t ∷ ts) = 0
-op_ahead (op o ∷ ts) = op_kind o
-op_ahead (opening ∷ ts) = 0
-op_ahead (closing ∷ ts) = 0
+-- the kind of the operator that follows, if one does
+unfoldable pub op_ahead : List Tok → Option NodeKind
+op_ahead [] = None
+op_ahead (cited t ∷ ts) = None
+op_ahead (op o ∷ ts) = Some (sign_kind o)
+op_ahead (opening ∷ ts) = None
+op_ahead (closing ∷ ts) = None
 
 -- an operand follows
 unfoldable pub operand_ahead : List Tok → Bool

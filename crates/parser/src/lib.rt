@@ -2,21 +2,19 @@
 
 #![tactic(auto)]
 
-ghost use Rattle.std.specs.Prelude.{◌≡◌, ◌+◌, ◌*◌, ◌-◌, ◌≤◌, ◌<◌, cond, eqb, length};
+ghost use Rattle.std.specs.Prelude.{◌≡◌, ◌+◌, ◌*◌, ◌≤◌, ◌<◌, length};
 ghost use Rattle.refusal.specs.Result.{map_ok};
 ghost use Rattle.utf8.specs.Limits.{text_limit};
 ghost use Rattle.grammar.specs.Rows.{span};
 ghost use Rattle.grammar.specs.Reading.{citation_limit};
-ghost use Rattle.parser.specs.Packed.{pack};
+ghost use Rattle.parser.specs.Packed.{pack, child_count};
 ghost use Rattle.parser.specs.Answer.{cites_in, parsed_kinds, rows_over};
 ghost use Rattle.parser.specs.Tokens.{from, op_ahead, operand_ahead};
-ghost use Rattle.parser.specs.States.{Ready, AtomSays, JuxSays, ChainSays, noded, past, led_pos, grown_pos, noded_rows, grown_rows, Stand, Placed};
+ghost use Rattle.parser.specs.States.{Ready, AtomSays, JuxSays, ChainSays, noded, past, noded_rows, Led, Grown, Stand, Placed};
 
-use lexer::{AND, CITATION, OPENING, XOR};
+use grammar::NodeKind;
+use lexer::TokenKind;
 use refusal::Refusal;
-
-// The kind of a Then's row; those of citations and operators are those of their tokens.
-const THEN: u8 = 1;
 
 // A place in the tokens, the rows written and the citations met; of what was read last, its kind and number of operands.
 #[derive(Clone, Copy)]
@@ -24,40 +22,42 @@ pub struct Pos {
     pub at: usize,
     pub rows: usize,
     pub cites: usize,
-    pub kind: u8,
+    pub kind: NodeKind,
     pub kids: usize,
 }
 
 // A node's row: its kind, the number of its children or of its citation, and the rows in its subtree.
 #[derive(Clone, Copy)]
 pub struct Row {
-    pub kind: u8,
+    pub kind: NodeKind,
     pub number: u16,
     pub size: u16,
 }
 
-// The kind of the operator at a place, or 0.
-fn op_at(toks: &[u8], at: usize) -> u8
+// The kind of the operator at a place, if one is there.
+fn op_at(toks: &[TokenKind], at: usize) -> Option<NodeKind>
     ensures { result ≡ op_ahead (from toks.now at) }
 {
-    match toks.get(at) {
-        Some(&kind) if AND <= kind && kind <= XOR => kind,
-        _ => 0,
+    match toks.get(at)? {
+        TokenKind::And => Some(NodeKind::And),
+        TokenKind::Or => Some(NodeKind::Or),
+        TokenKind::Xor => Some(NodeKind::Xor),
+        _ => None,
     }
 }
 
 // Whether an operand begins at a place.
-fn operand_at(toks: &[u8], at: usize) -> bool
+fn operand_at(toks: &[TokenKind], at: usize) -> bool
     ensures { result ≡ operand_ahead (from toks.now at) }
 {
     match toks.get(at) {
-        Some(&kind) => kind == CITATION || kind == OPENING,
+        Some(kind) => matches!(kind, TokenKind::Citation | TokenKind::Opening),
         None => false,
     }
 }
 
 // The row of this kind, number and size.
-fn make_row(kind: u8, number: usize, size: usize) -> Row
+fn make_row(kind: NodeKind, number: usize, size: usize) -> Row
     requires { (number < 65536) × (size < 65536) }
     ensures { result ≡ pack kind number size }
 {
@@ -70,9 +70,9 @@ fn make_row(kind: u8, number: usize, size: usize) -> Row
 
 // How many children a row has.
 fn row_children(row: Row) -> usize
-    ensures { result ≡ cond (eqb row.kind 0) 0 row.number }
+    ensures { result ≡ child_count row.kind row.number }
 {
-    if row.kind == CITATION {
+    if row.kind == NodeKind::Citation {
         return 0;
     }
     row.number as usize
@@ -90,9 +90,9 @@ fn add_node(work: &mut [Row], start: usize, q: Pos) -> Pos
 }
 
 // Past the operator after a lead: if the lead is a node of that operator, its operands are the chain's.
-fn led(lead: Pos, op: u8) -> Pos
+fn led(lead: Pos, op: NodeKind) -> Pos
     requires { (1 ≤ lead.rows) × (lead.at ≤ text_limit) }
-    ensures { result ≡ led_pos lead op }
+    ensures { Led lead op result }
 {
     let next = past_token(lead);
     if lead.kind == op {
@@ -108,15 +108,11 @@ fn led(lead: Pos, op: u8) -> Pos
     }
 }
 
-// A chain past the operator after its last operand: it grows by its own; another takes it as its first operand; without one it is whole.
-fn grow(work: &mut [Row], start: usize, q: Pos, op: u8) -> Pos
-    requires { (start ≤ q.rows) × (q.rows < length work.old) × (q.kids ≤ citation_limit) × (q.rows ≤ start + 2 * citation_limit) × (q.at ≤ text_limit) × (1 ≤ q.kind) }
-    ensures value { result ≡ grown_pos q op }
-    ensures work_after { work.new ≡ grown_rows work.old start q op }
+// A chain past the operator after its last operand: it grows by its own; another takes it as its first operand.
+fn grow(work: &mut [Row], start: usize, q: Pos, op: NodeKind) -> Pos
+    requires { (start ≤ q.rows) × (q.rows < length work.old) × (q.kids ≤ citation_limit) × (q.rows ≤ start + 2 * citation_limit) × (q.at ≤ text_limit) }
+    ensures { Grown work.old start q op work.new result }
 {
-    if op == 0 {
-        return add_node(work, start, q);
-    }
     if q.kind == op {
         return past_token(q);
     }
@@ -136,38 +132,41 @@ fn past_token(q: Pos) -> Pos
     Pos { at: q.at + 1, ..q }
 }
 
-// A citation, or a group in parentheses.
+// A citation, or a group in parentheses. Tokens, rows and place are parameters of their own here and below: a struct around lent
+// memory keeps the place in memory too, which was tried for writing (crate fields) and was slower.
 #[cycle(parse)]
-fn parse_atom(toks: &[u8], work: &mut [Row], p: Pos) -> Result<Pos, Refusal>
+fn parse_atom(toks: &[TokenKind], work: &mut [Row], p: Pos) -> Result<Pos, Refusal>
     requires { Ready toks.now (length work.old) p }
     ensures { AtomSays toks.now p work.old work.new result }
 {
-    let Some(&kind) = toks.get(p.at) else {
+    let Some(kind) = toks.get(p.at) else {
         return Err(Refusal::MissingOperand);
     };
-    if kind == OPENING {
-        let q = parse_chain(toks, work, past_token(p))?;
-        if q.at == toks.len() {
-            return Err(Refusal::Parentheses);
+    match kind {
+        TokenKind::Citation => {
+            work[p.rows] = make_row(NodeKind::Citation, p.cites, 1);
+            Ok(Pos {
+                at: p.at + 1,
+                rows: p.rows + 1,
+                cites: p.cites + 1,
+                kind: NodeKind::Citation,
+                kids: 0,
+            })
         }
-        return Ok(past_token(q));
+        TokenKind::Opening => {
+            let q = parse_chain(toks, work, past_token(p))?;
+            if q.at == toks.len() {
+                return Err(Refusal::Parentheses);
+            }
+            Ok(past_token(q))
+        }
+        _ => Err(Refusal::MissingOperand),
     }
-    if kind != CITATION {
-        return Err(Refusal::MissingOperand);
-    }
-    work[p.rows] = make_row(CITATION, p.cites, 1);
-    Ok(Pos {
-        at: p.at + 1,
-        rows: p.rows + 1,
-        cites: p.cites + 1,
-        kind: CITATION,
-        kids: 0,
-    })
 }
 
 // A run of atoms: two or more are one Then.
 #[cycle(parse)]
-fn parse_juxtaposition(toks: &[u8], work: &mut [Row], p: Pos) -> Result<Pos, Refusal>
+fn parse_juxtaposition(toks: &[TokenKind], work: &mut [Row], p: Pos) -> Result<Pos, Refusal>
     requires { Ready toks.now (length work.old) p }
     ensures { JuxSays toks.now p work.old work.new result }
 {
@@ -182,7 +181,7 @@ fn parse_juxtaposition(toks: &[u8], work: &mut [Row], p: Pos) -> Result<Pos, Ref
         return Ok(q);
     }
     let run = Pos {
-        kind: THEN,
+        kind: NodeKind::Then,
         kids,
         ..q
     };
@@ -191,28 +190,28 @@ fn parse_juxtaposition(toks: &[u8], work: &mut [Row], p: Pos) -> Result<Pos, Ref
 
 // Juxtapositions joined by operators, from left to right.
 #[cycle(parse)]
-fn parse_chain(toks: &[u8], work: &mut [Row], p: Pos) -> Result<Pos, Refusal>
+fn parse_chain(toks: &[TokenKind], work: &mut [Row], p: Pos) -> Result<Pos, Refusal>
     requires { Ready toks.now (length work.old) p }
     ensures { ChainSays toks.now p work.old work.new result }
 {
     let lead = parse_juxtaposition(toks, work, p)?;
-    let mut op = op_at(toks, lead.at);
-    if op == 0 {
+    let Some(op) = op_at(toks, lead.at) else {
         return Ok(lead);
-    }
+    };
     let mut q = led(lead, op);
-    // A step is as wide as an operator and an operand.
-    while op != 0 {
+    // A step is as wide as an operand and what follows it.
+    loop {
         let next = parse_juxtaposition(toks, work, q)?;
-        op = op_at(toks, next.at);
         let chain = Pos {
             kind: q.kind,
             kids: q.kids + 1,
             ..next
         };
+        let Some(op) = op_at(toks, next.at) else {
+            return Ok(add_node(work, p.rows, chain));
+        };
         q = grow(work, p.rows, chain, op);
     }
-    Ok(q)
 }
 
 // Puts `count` trees, whose rows in postorder end before `top`, in the order of the tree before `end`.
@@ -230,8 +229,12 @@ fn place(work: &[Row], top: usize, count: usize, rows: &mut [Row], end: usize)
     place(work, top - size, count - 1, rows, end - size);
 }
 
-// The rows of the expression that all tokens together are; what is no kind of a token is read as a closing parenthesis. `work` is scratch: it keeps its length, and what it holds afterwards is free.
-pub fn parse_tokens(toks: &[u8], work: &mut [Row], rows: &mut [Row]) -> Result<usize, Refusal>
+// The rows of the expression that all tokens together are. `work` is scratch: it keeps its length, and what it holds afterwards is free.
+pub fn parse_tokens(
+    toks: &[TokenKind],
+    work: &mut [Row],
+    rows: &mut [Row],
+) -> Result<usize, Refusal>
     requires { (length toks.now ≤ text_limit) × (cites_in toks.now ≤ citation_limit) × (2 * cites_in toks.now ≤ length work.old + 1) × (2 * cites_in toks.now ≤ length rows.old + 1) }
     ensures result_value { result ≡ map_ok span (parsed_kinds toks.now) }
     ensures rows_after { rows.new ≡ rows_over (parsed_kinds toks.now) rows.old }
@@ -240,7 +243,7 @@ pub fn parse_tokens(toks: &[u8], work: &mut [Row], rows: &mut [Row]) -> Result<u
         at: 0,
         rows: 0,
         cites: 0,
-        kind: 0,
+        kind: NodeKind::Citation,
         kids: 0,
     };
     let q = parse_chain(toks, work, start)?;

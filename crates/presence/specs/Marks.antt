@@ -1,9 +1,11 @@
 -- What a choice asks of its operands' citations, as one mark for each row. Assumes nothing.
-use Rattle.std.specs.Prelude.{◌≡◌, List, Bool, true, false, cond, ◌||◌, ℕ, zero, suc, ◌≤◌, ◌<◌, ltb, length, get_or}
+use Rattle.std.specs.Prelude.{◌≡◌, List, Bool, true, false, cond, ◌||◌, ℕ, zero, suc, ◌≤◌, ◌<◌, length, get_or}
 use Rattle.citation.specs.declared.ConditionKind.{ConditionKind}
 use Rattle.grammar.specs.Expr.{citations}
 use Rattle.grammar.specs.Bytes.{nodes, tree_at}
-use Rattle.tree.specs.Walk.{node_kind}
+use Rattle.grammar.specs.Kinds.{node_kind}
+use Rattle.grammar.specs.declared.NodeKind.{NodeKind}
+use Rattle.grammar.specs.declared.NodeKind.TheVariants.{Citation, Then, And, Or, Xor}
 use Rattle.semantics.specs.Presence.{is_hinweis, is_gate, only_hinweise, gates}
 use Rattle.presence.specs.declared.Mark.{Mark}
 use Rattle.presence.specs.declared.Mark.TheVariants.{Dropped, Kept, Gating}
@@ -47,8 +49,12 @@ is_gating Kept = false
 is_gating Gating = true
 
 -- a node of this kind is a choice: an Or or a Xor
-abbrev pub choosing : ℕ → Bool
-choosing k = ltb 2 k
+abbrev pub choosing : NodeKind → Bool
+choosing Citation = false
+choosing Then = false
+choosing And = false
+choosing Or = true
+choosing Xor = true
 
 -- one of the first rows, so many, is a choice's
 unfoldable pub choice_among : List ℕ → ℕ → Bool

@@ -1,9 +1,11 @@
 -- Which values were met, and what they make of a node. Assumes nothing.
-use Rattle.std.specs.Prelude.{List, [], ◌∷◌, true, false, cond, ◌||◌, ℕ, eqb, Result}
+use Rattle.std.specs.Prelude.{List, [], ◌∷◌, true, false, cond, ◌||◌, Result}
 use Rattle.refusal.specs.declared.Refusal.{Refusal}
 use Rattle.refusal.specs.Result.{map_ok}
 use Rattle.citation.specs.declared.Truth.{Truth}
 use Rattle.citation.specs.declared.Truth.TheVariants.{False, Unknown, True, Neutral}
+use Rattle.grammar.specs.declared.NodeKind.{NodeKind}
+use Rattle.grammar.specs.declared.NodeKind.TheVariants.{Citation, Then, And, Or, Xor}
 use Rattle.presence.specs.declared.Tally.{Tally}
 
 -- no value met
@@ -30,8 +32,12 @@ unfoldable pub xored : Tally → Truth
 xored t = cond t.second False (cond t.unknown Unknown (cond t.yes True (cond t.no False Neutral)))
 
 -- the truth of a node of this kind
-unfoldable pub ruled : ℕ → Tally → Truth
-ruled k t = cond (eqb k 3) (ored t) (cond (eqb k 4) (xored t) (anded t))
+unfoldable pub ruled : NodeKind → Tally → Truth
+ruled Citation t = anded t
+ruled Then t = anded t
+ruled And t = anded t
+ruled Or t = ored t
+ruled Xor t = xored t
 
 -- the values of a list met after those of a tally
 unfoldable pub tallied : Tally → List Truth → Tally
@@ -39,5 +45,5 @@ tallied t [] = t
 tallied t (v ∷ vs) = tallied (added t v) vs
 
 -- the truth of a node of this kind whose operands have these values besides those of a tally, or their refusal
-unfoldable pub finished : ℕ → Tally → Result (List Truth) Refusal → Result Truth Refusal
+unfoldable pub finished : NodeKind → Tally → Result (List Truth) Refusal → Result Truth Refusal
 finished k t r = map_ok (λ vs. ruled k (tallied t vs)) r

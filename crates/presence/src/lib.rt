@@ -6,25 +6,25 @@ ghost use Rattle.std.specs.Prelude.{◌≡◌, true, ◌&&◌, ◌+◌, ◌≤�
 ghost use Rattle.text.specs.Bytes.{all};
 ghost use Rattle.grammar.specs.Expr.{citations};
 ghost use Rattle.grammar.specs.Rows.{children};
-ghost use Rattle.grammar.specs.Bytes.{nodes, cites, is_tree, tree_at};
-ghost use Rattle.tree.specs.Walk.{node_kind, first_at};
+ghost use Rattle.grammar.specs.Bytes.{nodes, cites, tree_at};
+ghost use Rattle.grammar.specs.Kinds.{node_kind};
+ghost use Rattle.grammar.specs.declared.NodeKind.TheVariants.{Citation};
+ghost use Rattle.tree.specs.Walk.{first_at};
 ghost use Rattle.semantics.specs.Presence.{failed, mixes, presence, oracle_of, answers_fit};
 ghost use Rattle.semantics.specs.Answers.{presence_by, eval_answer};
 ghost use Rattle.presence.specs.Marks.{mark_of_kind, mark_of, is_dropped, choosing, choice_among, Marked, Ready};
 ghost use Rattle.presence.specs.Tallies.{no_tally, added, anded, ored, xored, ruled};
 
 use citation::{ConditionKind, Truth};
+use grammar::NodeKind;
 use refusal::Refusal;
-use tree::{NODE_LIMIT, cite_count, is_tree, kind_at, node_count, number_at, size_at, text_at};
+use tree::{NODE_LIMIT, Tree};
 
 // So many rows are few.
 const FEW_ROWS: usize = 32;
 
 // The answer byte of a citation whose evaluation failed: callers lend answers as bytes.
 const FAILED: u8 = 4;
-
-// The kind of an Or's row; a Xor's is the next, and all others are smaller.
-const OR: usize = 3;
 
 // The mark of a row: a choice drops the operand, or keeps it, or keeps it and it gates.
 #[derive(Clone, Copy, PartialEq, Eq, PartialOrd, Ord)]
@@ -88,6 +88,7 @@ impl Tally {
     }
 
     // The truth of a Then or an And.
+    #[tactic(auto, unfolding(crate::specs::Tallies::anded))]
     pub fn and(self) -> Truth
         ensures { result ≡ anded self }
     {
@@ -105,6 +106,7 @@ impl Tally {
     }
 
     // The truth of an Or.
+    #[tactic(auto, unfolding(crate::specs::Tallies::ored))]
     pub fn or(self) -> Truth
         ensures { result ≡ ored self }
     {
@@ -122,6 +124,7 @@ impl Tally {
     }
 
     // The truth of a Xor.
+    #[tactic(auto, unfolding(crate::specs::Tallies::xored))]
     fn xor(self) -> Truth
         ensures { result ≡ xored self }
     {
@@ -142,12 +145,13 @@ impl Tally {
     }
 
     // The truth of a node of this kind.
-    fn rule(self, kind: usize) -> Truth
+    #[tactic(auto, unfolding(crate::specs::Tallies::ruled))]
+    fn rule(self, kind: NodeKind) -> Truth
         ensures { result ≡ ruled kind self }
     {
         match kind {
-            3 => self.or(),
-            4 => self.xor(),
+            NodeKind::Or => self.or(),
+            NodeKind::Xor => self.xor(),
             _ => self.and(),
         }
     }
@@ -161,11 +165,10 @@ fn all_fit(answers: &[u8]) -> bool
 }
 
 // One answer byte a citation, none over 4.
-pub fn answers_fit(tree: &[u8], answers: &[u8]) -> bool
-    requires { is_tree tree.now ≡ true }
-    ensures { result ≡ answers_fit (tree_at tree.now 0) answers.now }
+pub fn answers_fit(tree: Tree, answers: &[u8]) -> bool
+    ensures { result ≡ answers_fit (tree_at tree.entry.bytes.now 0) answers.now }
 {
-    answers.len() == cite_count(tree) && all_fit(answers)
+    answers.len() == tree.cite_count() && all_fit(answers)
 }
 
 // The answer of a citation.
@@ -183,40 +186,43 @@ fn answer_at(answers: &[u8], number: usize) -> Result<Truth, Refusal>
 }
 
 // The mark of a row, from the marks of the rows after it.
-fn mark_row(tree: &[u8], marks: &[Mark], row: usize) -> Mark
-    requires { (is_tree tree.now ≡ true) × (row < nodes tree.now) × Marked tree.now (row + 1) marks.now }
-    ensures { result ≡ mark_of (citations (tree_at tree.now row)) }
+fn mark_row(tree: Tree, marks: &[Mark], row: usize) -> Mark
+    requires { (row < nodes tree.bytes.now) × Marked tree.bytes.now (row + 1) marks.now }
+    ensures { result ≡ mark_of (citations (tree_at tree.entry.bytes.now row)) }
 {
-    let number = number_at(tree, row);
-    if kind_at(tree, row) == 0 {
-        return Mark::from(ConditionKind::of_text(text_at(tree, number)));
+    if tree.kind_at(row) == NodeKind::Citation {
+        return Mark::from(ConditionKind::of_text(tree.text_at(tree.number_at(row))));
     }
-    let mut child = row + 1;
     let mut mark = Mark::Dropped;
-    for _ in 0..number {
+    for child in tree.children(row) {
         mark = mark.max(marks[child]);
-        child += size_at(tree, child);
     }
     mark
 }
 
 // Marks every row, from the last to the first.
-fn mark_rows(tree: &[u8], marks: &mut [Mark])
-    requires { (is_tree tree.now ≡ true) × (nodes tree.now ≤ length marks.old) }
-    ensures { Marked tree.now 0 marks.new }
+fn mark_rows(tree: Tree, marks: &mut [Mark])
+    requires { nodes tree.bytes.now ≤ length marks.old }
+    ensures { Marked tree.entry.bytes.now 0 marks.new }
 {
-    for row in (0..node_count(tree)).rev() {
+    for row in (0..tree.node_count()).rev() {
         marks[row] = mark_row(tree, marks, row);
     }
 }
 
-// A row is a choice's.
-fn has_choice(tree: &[u8]) -> bool
-    requires { is_tree tree.now ≡ true }
-    ensures { result ≡ choice_among tree.now (nodes tree.now) }
+// A node of this kind is a choice.
+fn is_choice(kind: NodeKind) -> bool
+    ensures { result ≡ choosing kind }
 {
-    for row in 0..node_count(tree) {
-        if OR <= kind_at(tree, row) {
+    matches!(kind, NodeKind::Or | NodeKind::Xor)
+}
+
+// A row is a choice's.
+fn has_choice(tree: Tree) -> bool
+    ensures { result ≡ choice_among tree.entry.bytes.now (nodes tree.entry.bytes.now) }
+{
+    for row in 0..tree.node_count() {
+        if is_choice(tree.kind_at(row)) {
             return true;
         }
     }
@@ -224,95 +230,111 @@ fn has_choice(tree: &[u8]) -> bool
 }
 
 // Marks the rows if one of them is a choice's; without a choice no mark is looked at.
-fn mark_choices(tree: &[u8], marks: &mut [Mark])
-    requires { (is_tree tree.now ≡ true) × (nodes tree.now ≤ length marks.old) }
-    ensures { Ready tree.now marks.new }
+fn mark_choices(tree: Tree, marks: &mut [Mark])
+    requires { nodes tree.bytes.now ≤ length marks.old }
+    ensures { Ready tree.entry.bytes.now marks.new }
 {
     if has_choice(tree) {
         mark_rows(tree, marks);
     }
 }
 
-// The node is a choice, and mixes.
-fn mixed(tree: &[u8], marks: &[Mark], row: usize, kind: usize) -> bool
-    requires { (is_tree tree.now ≡ true) × (row < nodes tree.now) × Ready tree.now marks.now × (kind ≡ node_kind (tree_at tree.now row)) }
-    ensures { result ≡ choosing kind && mixes (children (tree_at tree.now row)) }
-{
-    if kind < OR {
-        return false;
-    }
-    let number = number_at(tree, row);
-    let mut child = row + 1;
-    let mut gate = false;
-    let mut free = false;
-    for _ in 0..number {
-        gate |= marks[child] == Mark::Gating;
-        free |= marks[child] == Mark::Kept;
-        child += size_at(tree, child);
-    }
-    gate && free
-}
-
 // A node of this kind drops an operand with this mark.
-fn drops(kind: usize, mark: Mark) -> bool
+fn drops(kind: NodeKind, mark: Mark) -> bool
     ensures { result ≡ choosing kind && is_dropped mark }
 {
-    OR <= kind && mark == Mark::Dropped
+    is_choice(kind) && mark == Mark::Dropped
 }
 
-// The presence of the node at a row that is no citation's. Its citations are answered without a call.
-fn eval_node(tree: &[u8], answers: &[u8], marks: &[Mark], row: usize) -> Result<Truth, Refusal>
-    requires { (is_tree tree.now ≡ true) × (row < nodes tree.now) × (cites tree.now ≤ length answers.now) × Ready tree.now marks.now × (0 < node_kind (tree_at tree.now row)) }
-    ensures { result ≡ presence (oracle_of answers.now) (first_at tree.now row) (tree_at tree.now row) }
-{
-    let kind = kind_at(tree, row);
-    if mixed(tree, marks, row, kind) {
-        return Err(Refusal::ChoiceOverNeutral);
-    }
-    let operands = number_at(tree, row);
-    let mut child = row + 1;
-    let mut tally = Tally::new();
-    for _ in 0..operands {
-        let at = child;
-        child += size_at(tree, at);
-        if drops(kind, marks[at]) {
-            continue;
-        }
-        if kind_at(tree, at) == 0 {
-            tally = tally.add(answer_at(answers, number_at(tree, at))?);
-            continue;
-        }
-        tally = tally.add(eval_node(tree, answers, marks, at)?);
-    }
-    Ok(tally.rule(kind))
+// What a tree is evaluated by: an answer byte for each citation, and its rows' marks where they are looked at.
+#[derive(Clone, Copy)]
+struct Evaluation<'a> {
+    tree: Tree<'a>,
+    answers: &'a [u8],
+    marks: &'a [Mark],
+    ghost answered: { cites tree.bytes.now ≤ length answers.now },
+    ghost ready: { Ready tree.bytes.now marks.now },
 }
 
-// The presence of the subtree at a row.
-fn eval_row(tree: &[u8], answers: &[u8], marks: &[Mark], row: usize) -> Result<Truth, Refusal>
-    requires { (is_tree tree.now ≡ true) × (row < nodes tree.now) × (cites tree.now ≤ length answers.now) × Ready tree.now marks.now }
-    ensures { result ≡ presence (oracle_of answers.now) (first_at tree.now row) (tree_at tree.now row) }
-{
-    if kind_at(tree, row) == 0 {
-        return answer_at(answers, number_at(tree, row));
+impl Evaluation<'_> {
+    // The node is a choice, and mixes.
+    fn mixed(&self, row: usize, kind: NodeKind) -> bool
+        requires { (row < nodes self.now.tree.bytes.now) × (kind ≡ node_kind (tree_at self.now.tree.bytes.now row)) }
+        ensures { result ≡ choosing kind && mixes (children (tree_at self.now.tree.bytes.now row)) }
+    {
+        if !is_choice(kind) {
+            return false;
+        }
+        let mut gate = false;
+        let mut free = false;
+        for child in self.tree.children(row) {
+            gate |= self.marks[child] == Mark::Gating;
+            free |= self.marks[child] == Mark::Kept;
+        }
+        gate && free
     }
-    eval_node(tree, answers, marks, row)
+
+    // The presence of the node at a row that is no citation's. Its citations are answered without a call.
+    fn node(&self, row: usize) -> Result<Truth, Refusal>
+        requires { (row < nodes self.now.tree.bytes.now) × ¬ (node_kind (tree_at self.now.tree.bytes.now row) ≡ Citation) }
+        ensures { result ≡ presence (oracle_of self.now.answers.now) (first_at self.now.tree.bytes.now row) (tree_at self.now.tree.bytes.now row) }
+    {
+        let kind = self.tree.kind_at(row);
+        if self.mixed(row, kind) {
+            return Err(Refusal::ChoiceOverNeutral);
+        }
+        // Read here, since the loop would read them again in each turn.
+        let Evaluation {
+            tree,
+            answers,
+            marks,
+        } = *self;
+        let mut tally = Tally::new();
+        for at in tree.children(row) {
+            if drops(kind, marks[at]) {
+                continue;
+            }
+            if tree.kind_at(at) == NodeKind::Citation {
+                tally = tally.add(answer_at(answers, tree.number_at(at))?);
+                continue;
+            }
+            tally = tally.add(self.node(at)?);
+        }
+        Ok(tally.rule(kind))
+    }
+
+    // The presence of the subtree at a row.
+    fn subtree(&self, row: usize) -> Result<Truth, Refusal>
+        requires { row < nodes self.now.tree.bytes.now }
+        ensures { result ≡ presence (oracle_of self.now.answers.now) (first_at self.now.tree.bytes.now row) (tree_at self.now.tree.bytes.now row) }
+    {
+        if self.tree.kind_at(row) == NodeKind::Citation {
+            return answer_at(self.answers, self.tree.number_at(row));
+        }
+        self.node(row)
+    }
 }
 
 // Marks the rows where that is needed, and evaluates the tree.
-fn eval_marked(tree: &[u8], answers: &[u8], marks: &mut [Mark]) -> Result<Truth, Refusal>
-    requires { (is_tree tree.now ≡ true) × (answers_fit (tree_at tree.now 0) answers.now ≡ true) × (nodes tree.now ≤ length marks.old) }
-    ensures { result ≡ presence_by answers.now (tree_at tree.now 0) }
+fn eval_marked(tree: Tree, answers: &[u8], marks: &mut [Mark]) -> Result<Truth, Refusal>
+    requires { (answers_fit (tree_at tree.bytes.now 0) answers.now ≡ true) × (nodes tree.bytes.now ≤ length marks.old) }
+    ensures { result ≡ presence_by answers.now (tree_at tree.entry.bytes.now 0) }
 {
     mark_choices(tree, marks);
-    eval_row(tree, answers, marks, 0)
+    let evaluation = Evaluation {
+        tree,
+        answers,
+        marks,
+    };
+    evaluation.subtree(0)
 }
 
 // The presence of a tree whose answers fit: 7 and 8 as met. The marks of few rows stand in a scratch that is small.
-pub fn eval_tree(tree: &[u8], answers: &[u8]) -> Result<Truth, Refusal>
-    requires { (is_tree tree.now ≡ true) × (answers_fit (tree_at tree.now 0) answers.now ≡ true) }
-    ensures { result ≡ presence_by answers.now (tree_at tree.now 0) }
+pub fn eval_tree(tree: Tree, answers: &[u8]) -> Result<Truth, Refusal>
+    requires { answers_fit (tree_at tree.bytes.now 0) answers.now ≡ true }
+    ensures { result ≡ presence_by answers.now (tree_at tree.entry.bytes.now 0) }
 {
-    if node_count(tree) <= FEW_ROWS {
+    if tree.node_count() <= FEW_ROWS {
         let mut marks = [Mark::Dropped; FEW_ROWS];
         return eval_marked(tree, answers, &mut marks);
     }
@@ -324,9 +346,7 @@ pub fn eval_tree(tree: &[u8], answers: &[u8]) -> Result<Truth, Refusal>
 pub fn eval(tree: &[u8], answers: &[u8]) -> Result<Truth, Refusal>
     ensures { result ≡ eval_answer tree.now answers.now }
 {
-    if !is_tree(tree) {
-        return Err(Refusal::NotATree);
-    }
+    let tree = Tree::new(tree)?;
     if !answers_fit(tree, answers) {
         return Err(Refusal::WrongAnswers);
     }

@@ -31,8 +31,9 @@ fn digit_value(b: u8) -> Option<u8>
     }
 }
 
-// Puts what pairs of digits write at the start of out, up to the first that is no pair; how many bytes.
-fn put_pairs(field: &[u8], out: &mut [u8]) -> usize
+// Puts what pairs of digits write at the start of out, up to the first that is no pair, and returns
+// how many bytes: as many as `decode` puts, also where that answers None.
+pub fn put_pairs(field: &[u8], out: &mut [u8]) -> usize
     requires { length field.now ≤ 2 * length out.old }
     ensures value { (result ≡ length (pairs field.now)) × (2 * result ≤ length field.now) }
     ensures out_after { out.new ≡ over (pairs field.now) out.old }

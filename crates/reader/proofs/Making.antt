@@ -20,6 +20,7 @@ use Rattle.grammar.proofs.Cites.{parse-cites}
 use Rattle.grammar.specs.Reading.{citation_limit, expression}
 use Rattle.grammar.proofs.Reading.{expression_given}
 use Rattle.lexer.specs.Tokens.{counted, tokenized}
+use Rattle.lexer.specs.declared.TokenKind.{TokenKind}
 use Rattle.lexer.specs.declared.Place.{Place}
 use Rattle.lexer.proofs.Turns as turns
 use Rattle.lexer.proofs.Told.{Told, told, told_refused}
@@ -38,9 +39,9 @@ not_lexed s why a =
     let q : tokenized (decode s) ≡ Err why = told_refused (tokenized (decode s)) why a in
     sym (tokenized_parsed (decode s)) ∙ rw q
 
-module _ (s kinds : List ℕ) (places : List Place) (k p w r : ℕ) (room : Room (length s) k p w r) (isk : length kinds ≡ k) (isp : length places ≡ p) (n m b : ℕ) where
+module _ (s : List ℕ) (kinds : List TokenKind) (places : List Place) (k p w r : ℕ) (room : Room (length s) k p w r) (isk : length kinds ≡ k) (isp : length places ≡ p) (n m b : ℕ) where
   -- what `lex` told
-  pub told_counts : is_utf8 s ≡ true → (kinds₀ : List ℕ) (places₀ : List Place) → length places ≡ length places₀ → turns.Answers s kinds₀ places₀ kinds places (Ok (record { tokens = n; cites = m; bytes = b })) → Told s kinds places n m b
+  pub told_counts : is_utf8 s ≡ true → (kinds₀ : List TokenKind) (places₀ : List Place) → length places ≡ length places₀ → turns.Answers s kinds₀ places₀ kinds places (Ok (record { tokens = n; cites = m; bytes = b })) → Told s kinds places n m b
   told_counts u kinds₀ places₀ same a =
       told s kinds₀ places₀ kinds places n m b u same (λ x y. let z = room.cites m x (omega arith) in omega arith)
       a

@@ -1,16 +1,18 @@
 -- The answers of reading and the lent bytes. Assumes nothing.
 use Rattle.std.specs.Prelude.{Result, Ok, Err}
 use mathlib.Core.Path.{◌≡◌, refl, sym, ap, ◌∙◌}
+use mathlib.Core.Bool.{true}
 use mathlib.Core.List.{List}
 use Prim.Native.Nat.{ℕ, ◌+◌, ◌*◌, ◌≤◌, ◌<◌}
 use native.Mathlib.Omega.{arith}
 use lib.ListN.{length, take}
+use borrow.Author.Tests.{le-leb}
 use Rattle.refusal.specs.Result.{map_ok, then}
 use Rattle.refusal.specs.declared.Refusal.{Refusal}
 use Rattle.refusal.specs.declared.Refusal.TheVariants.{NoRoom}
-use Rattle.utf8.specs.Utf8.{decode}
+use Rattle.utf8.specs.Utf8.{is_utf8, decode}
 use Rattle.utf8.specs.Limits.{text_limit, admitted}
-use Rattle.utf8.proofs.Limits.{admitted_fine, admitted_refused}
+use Rattle.utf8.proofs.Limits.{fits, admitted_refused}
 use Rattle.grammar.specs.Expr.{Expr, concat}
 use Rattle.grammar.specs.Rows.{rows}
 use Rattle.grammar.specs.Bytes.{bytes_of}
@@ -59,7 +61,7 @@ module _ (s : List ℕ) (places : List Place) (held : List Row) (n c t : ℕ) (m
   cuts_size = m.bytes ∙ ap (λ y. length (concat y)) (sym m.cited)
 
   rows_are : unpacked (take n held) ≡ rows 0 e
-  rows_are = ap unpacked m.rowed ∙ rows_back (rows 0 e)
+  rows_are = ap unpacked m.rowed ∙ rows_back 0 e
 
   -- a buffer that is too short
   pub no_room : (old : List ℕ) → length old < 12 + 6 * n + 4 * c + t → (Err NoRoom ≡ answer_of (tree_outcome x) (length old)) × (old ≡ written_of (tree_outcome x) old)
@@ -91,10 +93,10 @@ module _ (s old : List ℕ) where
       rw (by_reading s (Err why) q) (refused_reading (Err why) old why refl)
 
   -- an admitted text reads as its characters do
-  pub admitted-reading : (r : Result ℕ Refusal) (new : List ℕ) → ◌≡◌ {A = Result (Unit {0}) Refusal} (Ok tt) (admitted text_limit s (Ok tt))
+  pub admitted-reading : (r : Result ℕ Refusal) (new : List ℕ) → length s ≤ text_limit → is_utf8 s ≡ true
       → (r ≡ answer_of (tree_outcome (expression (decode s))) (length old)) × (new ≡ written_of (tree_outcome (expression (decode s))) old)
       → (r ≡ answer_of (parse_answer s) (length old)) × (new ≡ written_of (parse_answer s) old)
   unfolding reading
-  admitted-reading r new a h =
-      let q : reading s ≡ expression (decode s) = admitted_fine text_limit s a refl (expression (decode s)) in
+  admitted-reading r new short well h =
+      let q : reading s ≡ expression (decode s) = fits text_limit s (expression (decode s)) (le-leb (length s) text_limit short, well) in
       rw (by_reading s (expression (decode s)) q) h

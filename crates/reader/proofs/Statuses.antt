@@ -8,13 +8,13 @@ use native.Mathlib.Omega.{arith}
 use lib.Dec.{leb}
 use lib.ListN.{length, take, drop, length-take}
 use lib.Seq.{take_at}
-use borrow.Author.Tests.{eq-eqb, ne_eqb}
+use borrow.Author.Tests.{le-leb, eq-eqb, ne_eqb}
 use Rattle.refusal.specs.Result.{unless, map_ok, then}
 use Rattle.refusal.specs.declared.Refusal.{Refusal}
 use Rattle.refusal.specs.declared.Refusal.TheVariants.{NoRoom}
 use Rattle.utf8.specs.Utf8.{is_utf8, decode}
 use Rattle.utf8.specs.Limits.{text_limit, admitted}
-use Rattle.utf8.proofs.Limits.{admitted_fine, admitted_refused}
+use Rattle.utf8.proofs.Limits.{fits, admitted_refused}
 use Rattle.status.specs.declared.StatusKind.{StatusKind}
 use Rattle.status.specs.Status.{kind_of_word}
 use Rattle.grammar.specs.Expr.{Expr}
@@ -144,9 +144,9 @@ module _ (s old : List ℕ) where
       rw (by_status_lem s (Err why) q) (refused_status (Err why) old why refl)
 
   -- an admitted text reads as its words do
-  pub status_admitted : (r : Result StatusSaid Refusal) (new : List ℕ) → ◌≡◌ {A = Result (Unit {0}) Refusal} (Ok tt) (admitted text_limit s (Ok tt)) → Says (of_words (words (decode s))) old new r
+  pub status_admitted : (r : Result StatusSaid Refusal) (new : List ℕ) → length s ≤ text_limit → is_utf8 s ≡ true → Says (of_words (words (decode s))) old new r
       → (r ≡ answer_of (status_answer s) (length old)) × (new ≡ written_of (status_answer s) old)
   unfolding status_reading
-  status_admitted r new a h =
-      let q : status_reading s ≡ of_words (words (decode s)) = admitted_fine text_limit s a refl (of_words (words (decode s))) in
+  status_admitted r new short well h =
+      let q : status_reading s ≡ of_words (words (decode s)) = fits text_limit s (of_words (words (decode s))) (le-leb (length s) text_limit short, well) in
       rw (by_status_lem s (of_words (words (decode s))) q) h

@@ -2,7 +2,7 @@
 
 #![tactic(auto)]
 
-ghost use Rattle.std.specs.Prelude.{◌≡◌, true, ◌+◌, ◌≤◌, length, drop};
+ghost use Rattle.std.specs.Prelude.{◌≡◌, true, ◌+◌, ◌≤◌, length, drop, IfOk};
 ghost use Rattle.utf8.specs.Utf8.{is_utf8, decode};
 ghost use Rattle.utf8.specs.Limits.{text_limit};
 ghost use Rattle.grammar.specs.Reading.{expression, citation_limit, node_limit};
@@ -11,7 +11,8 @@ ghost use Rattle.grammar.specs.Outcome.{answer_of, written_of, parse_answer, sta
 ghost use Rattle.reader.specs.Said.{tree_outcome, status_outcome};
 ghost use Rattle.reader.specs.Made.{Room, Made};
 
-use lexer::{Lexed, Place};
+use grammar::NodeKind;
+use lexer::{Lexed, Place, Text, TokenKind};
 use parser::Row;
 use refusal::Refusal;
 use status::StatusKind;
@@ -31,7 +32,7 @@ const MEDIUM_NODES: usize = 255;
 const NO_PLACE: Place = Place { from: 0, size: 0 };
 
 const NO_ROW: Row = Row {
-    kind: 0,
+    kind: NodeKind::Citation,
     number: 0,
     size: 0,
 };
@@ -50,81 +51,90 @@ pub struct Expr {}
 #[derive(Clone, Copy)]
 pub struct Status {}
 
-// The node rows of a text, and the places of its citations.
-fn make(
-    text: &[u8],
-    kinds: &mut [u8],
-    places: &mut [Place],
-    work: &mut [Row],
-    rows: &mut [Row],
-) -> Result<Sizes, Refusal>
-    requires { (length text.now ≤ text_limit) × (is_utf8 text.now ≡ true) × Room (length text.now) (length kinds.old) (length places.old) (length work.old) (length rows.old) }
-    ensures { Made text.now places.new rows.new result }
-{
-    let Lexed {
-        tokens,
-        cites,
-        bytes,
-    } = lexer::lex(text, kinds, places)?;
-    let nodes = parser::parse_tokens(&kinds[..tokens], work, rows)?;
-    Ok(Sizes {
-        nodes,
-        cites,
-        bytes,
-    })
+// Room for what stands between a text and its tree: so many tokens, citations and nodes.
+#[derive(Drop)]
+struct Scratch<const TOKENS: usize, const CITES: usize, const NODES: usize> {
+    kinds: [TokenKind; TOKENS],
+    places: [Place; CITES],
+    work: [Row; NODES],
+    rows: [Row; NODES],
 }
 
-// Writes the tree of a text that was admitted, if there is room.
-fn read(
-    text: &[u8],
-    kinds: &mut [u8],
-    places: &mut [Place],
-    work: &mut [Row],
-    rows: &mut [Row],
-    out: &mut [u8],
-) -> Result<usize, Refusal>
-    requires { (length text.now ≤ text_limit) × (is_utf8 text.now ≡ true) × Room (length text.now) (length kinds.old) (length places.old) (length work.old) (length rows.old) }
-    ensures result_value { result ≡ answer_of (tree_outcome (expression (decode text.now))) (length out.old) }
-    ensures out_after { out.new ≡ written_of (tree_outcome (expression (decode text.now))) out.old }
-{
-    let Sizes {
-        nodes,
-        cites,
-        bytes,
-    } = make(text, kinds, places, work, rows)?;
-    let length = HEAD_SIZE + ROW_SIZE * nodes + CITE_SIZE * cites + bytes;
-    if out.len() < length {
-        return Err(Refusal::NoRoom);
+impl<const TOKENS: usize, const CITES: usize, const NODES: usize> Scratch<TOKENS, CITES, NODES> {
+    fn new() -> Self {
+        Scratch {
+            kinds: [TokenKind::Citation; TOKENS],
+            places: [NO_PLACE; CITES],
+            work: [NO_ROW; NODES],
+            rows: [NO_ROW; NODES],
+        }
     }
-    Ok(writer::write_tree(&rows[..nodes], text, &places[..cites], bytes, out))
+
+    // The node rows of a text, and the places of its citations.
+    fn make(&mut self, text: Text) -> Result<Sizes, Refusal>
+        requires { Room (length text.bytes.now) TOKENS CITES NODES NODES }
+        ensures made { Made text.entry.bytes.now self.new.places self.new.rows result }
+        ensures within { IfOk result (λ sizes. (sizes.nodes ≤ NODES) × (sizes.cites ≤ CITES)) }
+    {
+        let Lexed {
+            tokens,
+            cites,
+            bytes,
+        } = lexer::lex(text, &mut self.kinds, &mut self.places)?;
+        let nodes = parser::parse_tokens(&self.kinds[..tokens], &mut self.work, &mut self.rows)?;
+        Ok(Sizes {
+            nodes,
+            cites,
+            bytes,
+        })
+    }
+
+    // Writes the tree of a text that was admitted, if there is room.
+    fn read(&mut self, text: Text, out: &mut [u8]) -> Result<usize, Refusal>
+        requires { Room (length text.bytes.now) TOKENS CITES NODES NODES × (CITES ≤ citation_limit) × (NODES ≤ node_limit) }
+        ensures result_value { result ≡ answer_of (tree_outcome (expression (decode text.entry.bytes.now))) (length out.old) }
+        ensures out_after { out.new ≡ written_of (tree_outcome (expression (decode text.entry.bytes.now))) out.old }
+    {
+        let Sizes {
+            nodes,
+            cites,
+            bytes,
+        } = self.make(text)?;
+        let length = HEAD_SIZE + ROW_SIZE * nodes + CITE_SIZE * cites + bytes;
+        if out.len() < length {
+            return Err(Refusal::NoRoom);
+        }
+        Ok(writer::write_tree(
+            &self.rows[..nodes],
+            text.bytes,
+            &self.places[..cites],
+            bytes,
+            out,
+        ))
+    }
 }
 
-// The same in a scratch of its own, with room for so many tokens, citations and nodes.
+// The same in a scratch of its own.
 fn read_in<const TOKENS: usize, const CITES: usize, const NODES: usize>(
-    text: &[u8],
+    text: Text,
     out: &mut [u8],
 ) -> Result<usize, Refusal>
-    requires { Room (length text.now) TOKENS CITES NODES NODES × (CITES ≤ citation_limit) × (NODES ≤ node_limit) × (is_utf8 text.now ≡ true) }
-    ensures result_value { result ≡ answer_of (tree_outcome (expression (decode text.now))) (length out.old) }
-    ensures out_after { out.new ≡ written_of (tree_outcome (expression (decode text.now))) out.old }
+    requires { Room (length text.bytes.now) TOKENS CITES NODES NODES × (CITES ≤ citation_limit) × (NODES ≤ node_limit) }
+    ensures result_value { result ≡ answer_of (tree_outcome (expression (decode text.entry.bytes.now))) (length out.old) }
+    ensures out_after { out.new ≡ written_of (tree_outcome (expression (decode text.entry.bytes.now))) out.old }
 {
-    let mut kinds = [0u8; TOKENS];
-    let mut places = [NO_PLACE; CITES];
-    let mut work = [NO_ROW; NODES];
-    let mut rows = [NO_ROW; NODES];
-    read(text, &mut kinds, &mut places, &mut work, &mut rows, out)
+    Scratch::<TOKENS, CITES, NODES>::new().read(text, out)
 }
 
 // In a scratch by the length of the text, since clearing a large one costs more than a short text.
-fn read_text(text: &[u8], out: &mut [u8]) -> Result<usize, Refusal>
-    requires { (length text.now ≤ text_limit) × (is_utf8 text.now ≡ true) }
-    ensures result_value { result ≡ answer_of (tree_outcome (expression (decode text.now))) (length out.old) }
-    ensures out_after { out.new ≡ written_of (tree_outcome (expression (decode text.now))) out.old }
+fn read_text(text: Text, out: &mut [u8]) -> Result<usize, Refusal>
+    ensures result_value { result ≡ answer_of (tree_outcome (expression (decode text.entry.bytes.now))) (length out.old) }
+    ensures out_after { out.new ≡ written_of (tree_outcome (expression (decode text.entry.bytes.now))) out.old }
 {
-    if text.len() <= SHORT {
+    if text.bytes.len() <= SHORT {
         return read_in::<SHORT, SHORT, SHORT_NODES>(text, out);
     }
-    if text.len() <= MEDIUM {
+    if text.bytes.len() <= MEDIUM {
         return read_in::<MEDIUM, MEDIUM, MEDIUM_NODES>(text, out);
     }
     read_in::<TEXT_LIMIT, CITATION_LIMIT, NODE_LIMIT>(text, out)
@@ -136,7 +146,7 @@ impl Expr {
         ensures result_value { result ≡ answer_of (parse_answer text.now) (length out.old) }
         ensures out_after { out.new ≡ written_of (parse_answer text.now) out.old }
     {
-        utf8::admit(text, TEXT_LIMIT)?;
+        let text = Text::admit(text)?;
         read_text(text, out)
     }
 }
@@ -157,45 +167,49 @@ fn after_word(
     if n == 0 {
         return Ok((kind, None));
     }
-    let length = read_text(&joined[..n], out)?;
+    let length = read_text(
+        Text {
+            bytes: &joined[..n],
+        },
+        out,
+    )?;
     Ok((kind, Some(length)))
 }
 
 // The status of a text that was admitted.
 fn read_status(
-    text: &[u8],
+    text: Text,
     joined: &mut [u8],
     out: &mut [u8],
 ) -> Result<(StatusKind, Option<usize>), Refusal>
-    requires { (length text.now ≤ length joined.old) × (length joined.old ≤ text_limit) × (is_utf8 text.now ≡ true) }
-    ensures result_value { result ≡ answer_of (status_outcome (of_words (words (decode text.now)))) (length out.old) }
-    ensures out_after { out.new ≡ written_of (status_outcome (of_words (words (decode text.now)))) out.old }
+    requires { (length text.bytes.now ≤ length joined.old) × (length joined.old ≤ text_limit) }
+    ensures result_value { result ≡ answer_of (status_outcome (of_words (words (decode text.entry.bytes.now)))) (length out.old) }
+    ensures out_after { out.new ≡ written_of (status_outcome (of_words (words (decode text.entry.bytes.now)))) out.old }
 {
-    let word = lexer::first_word(text);
-    let kind = StatusKind::from_word(&text[word.from..word.end])?;
-    after_word(kind, text, word.end, joined, out)
+    let word = lexer::first_word(text.bytes);
+    let kind = StatusKind::from_word(&text.bytes[word.from..word.end])?;
+    after_word(kind, text.bytes, word.end, joined, out)
 }
 
 // The same in a scratch of its own, with room for so many bytes.
 fn read_status_in<const BYTES: usize>(
-    text: &[u8],
+    text: Text,
     out: &mut [u8],
 ) -> Result<(StatusKind, Option<usize>), Refusal>
-    requires { (length text.now ≤ BYTES) × (BYTES ≤ text_limit) × (is_utf8 text.now ≡ true) }
-    ensures result_value { result ≡ answer_of (status_outcome (of_words (words (decode text.now)))) (length out.old) }
-    ensures out_after { out.new ≡ written_of (status_outcome (of_words (words (decode text.now)))) out.old }
+    requires { (length text.bytes.now ≤ BYTES) × (BYTES ≤ text_limit) }
+    ensures result_value { result ≡ answer_of (status_outcome (of_words (words (decode text.entry.bytes.now)))) (length out.old) }
+    ensures out_after { out.new ≡ written_of (status_outcome (of_words (words (decode text.entry.bytes.now)))) out.old }
 {
     let mut joined = [0u8; BYTES];
     read_status(text, &mut joined, out)
 }
 
 // In a scratch by the length of the text.
-fn scan_status(text: &[u8], out: &mut [u8]) -> Result<(StatusKind, Option<usize>), Refusal>
-    requires { (length text.now ≤ text_limit) × (is_utf8 text.now ≡ true) }
-    ensures result_value { result ≡ answer_of (status_outcome (of_words (words (decode text.now)))) (length out.old) }
-    ensures out_after { out.new ≡ written_of (status_outcome (of_words (words (decode text.now)))) out.old }
+fn scan_status(text: Text, out: &mut [u8]) -> Result<(StatusKind, Option<usize>), Refusal>
+    ensures result_value { result ≡ answer_of (status_outcome (of_words (words (decode text.entry.bytes.now)))) (length out.old) }
+    ensures out_after { out.new ≡ written_of (status_outcome (of_words (words (decode text.entry.bytes.now)))) out.old }
 {
-    if text.len() <= MEDIUM {
+    if text.bytes.len() <= MEDIUM {
         return read_status_in::<MEDIUM>(text, out);
     }
     read_status_in::<TEXT_LIMIT>(text, out)
@@ -207,7 +221,7 @@ impl Status {
         ensures result_value { result ≡ answer_of (status_answer text.now) (length out.old) }
         ensures out_after { out.new ≡ written_of (status_answer text.now) out.old }
     {
-        utf8::admit(text, TEXT_LIMIT)?;
+        let text = Text::admit(text)?;
         scan_status(text, out)
     }
 }

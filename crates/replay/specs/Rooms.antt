@@ -1,13 +1,9 @@
 -- How long the buffers are that a request works in. Assumes nothing.
-use Rattle.std.specs.Prelude.{ℕ, ◌≤◌, ◌≡◌, List, length}
+use Rattle.std.specs.Prelude.{ℕ, ◌≤◌, List, length}
 
 -- the length of the longest answer: some words, and the digits of the longest field
 abbrev pub room : ℕ
 room = 65600
-
--- the longest answer fits
-abbrev pub HasRoom : List ℕ → Type 0
-HasRoom out = room ≤ length out
 
 -- it is no longer than the longest line
 abbrev pub Line : List ℕ → Type 0
@@ -16,7 +12,3 @@ Line line = length line ≤ 65536
 -- it is no longer than the byte string of the longest field
 abbrev pub Fits : List ℕ → Type 0
 Fits s = length s ≤ 32768
-
--- just that has room
-abbrev pub Scratch : List ℕ → Type 0
-Scratch s = length s ≡ 32768

@@ -39,6 +39,7 @@ use requests::{Fields, respond};
 use std::io::{Read, Write};
 
 mod answers;
+mod field;
 mod requests;
 
 // The longest line.
@@ -103,7 +104,7 @@ impl Exchange {
         let n = respond(
             &self.line[..self.len],
             &mut self.fields,
-            &mut self.out[from..],
+            self.out[from..].first_chunk_mut().unwrap(),
         );
         self.waiting = from + n;
         self.len = 0;
@@ -136,17 +137,12 @@ impl Exchange {
     }
 }
 
-// Nothing says that the input ends, so the turns are counted, up to a number that no run uses up.
 fn answer_all<R: Read, W: Write>(from: &mut R, to: &mut W) {
     let mut exchange = Exchange::new();
-    let mut input = [0u8; 65536];
-    for _ in 0..u64::MAX {
-        let n = console::read_some(from, &mut input);
-        if n == 0 {
-            break;
-        }
-        exchange.feed_all(&input[..n], to);
-    }
+    console::each_piece(from, |piece| {
+        exchange.feed_all(piece, to);
+        true
+    });
     exchange.end(to);
 }
 

@@ -1,12 +1,11 @@
 // The requests: which function a line asks, with how many fields. A field that holds a lent buffer is the last.
-ghost use Rattle.std.specs.Prelude.{◌≤◌, length, IfSome};
-ghost use Rattle.protocol.specs.Hex.{Within};
-ghost use Rattle.replay.specs.Rooms.{HasRoom, Fits, Line, Scratch};
+ghost use Rattle.std.specs.Prelude.{◌≤◌, IfSome};
+ghost use Rattle.replay.specs.Rooms.{room, Line};
 
 use super::answers::{Lent, Said};
-use super::{BYTES, LINE, answers};
+use super::field::Field;
+use super::{LINE, ROOM, answers};
 use citation::{ConditionKind, Paket};
-use formats::FormatVerdict;
 use reader::{Expr, Status};
 use refusal::Refusal;
 
@@ -17,21 +16,8 @@ fn tree(bytes: &[u8]) -> Result<Said, Refusal> {
     Err(Refusal::NotATree)
 }
 
-fn letter_of(v: FormatVerdict) -> u8 {
-    match v {
-        FormatVerdict::Holds => b'H',
-        FormatVerdict::Violated => b'V',
-        FormatVerdict::Unregistered => b'U',
-    }
-}
-
 fn status(text: &[u8], buf: &mut [u8]) -> Result<Lent, Refusal> {
-    let (kind, length) = Status::parse(text, buf)?;
-    let code = u8::from(kind);
-    Ok(match length {
-        None => Lent::Alone(code),
-        Some(length) => Lent::Stated { code, length },
-    })
+    Status::parse(text, buf).map(|(kind, length)| Lent::Stated(kind, length))
 }
 
 // What is done to a lent buffer, as the number that its answer begins with.
@@ -54,7 +40,7 @@ fn with_one(word: &[u8], s: &[u8]) -> Option<Result<Said, Refusal>> {
 // The requests of two fields, neither of them lent.
 fn with_two(word: &[u8], s: &[u8], t: &[u8]) -> Option<Result<Said, Refusal>> {
     match word {
-        b"evaluate" => Some(formats::evaluate(s, t).map(|v| Said::Letter(letter_of(v)))),
+        b"evaluate" => Some(formats::evaluate(s, t).map(|v| Said::Verdict(v))),
         b"eval" => Some(presence::eval(s, t).map(|v| Said::Figure(u64::from(u8::from(v))))),
         b"truth" => Some(verdicts::truth(s, t).map(|v| Said::Figure(u64::from(u8::from(v))))),
         _ => None,
@@ -73,74 +59,64 @@ fn with_lent(word: &[u8], s: &[u8], buf: &mut [u8]) -> Option<Result<Lent, Refus
 }
 
 // The answer to a request of one field.
-fn answer_one(word: &[u8], s: &[u8], out: &mut [u8]) -> Option<usize>
-    requires { HasRoom out.old × Fits s.now }
-    ensures { IfSome result (λ n. n ≤ length out.new) }
+fn answer_one(word: &[u8], s: &Field, out: &mut [u8; ROOM]) -> Option<usize>
+    ensures { IfSome result (λ n. n ≤ room) }
 {
     if matches!(word, b"cited") {
         return Some(answers::texts(s, out));
     }
-    Some(answers::answer(out, with_one(word, s)?, s))
+    Some(answers::answer(out, with_one(word, s.bytes())?, s))
 }
 
 // The answer to a request of two fields.
-fn answer_two(word: &[u8], s: &[u8], buf: &mut [u8], out: &mut [u8]) -> Option<usize>
-    requires { HasRoom out.old × Fits buf.old }
-    ensures { IfSome result (λ n. n ≤ length out.new) }
+fn answer_two(word: &[u8], s: &[u8], buf: &mut Field, out: &mut [u8; ROOM]) -> Option<usize>
+    ensures { IfSome result (λ n. n ≤ room) }
 {
-    if let Some(said) = with_lent(word, s, buf) {
+    if let Some(said) = with_lent(word, s, &mut buf.room[0..buf.len]) {
         return Some(answers::answer_lent(out, said, buf));
     }
-    Some(answers::answer(out, with_two(word, s, buf)?, buf))
+    Some(answers::answer(out, with_two(word, s, buf.bytes())?, buf))
 }
 
-// A field of the line, at the start of a scratch slice; how many bytes.
-fn field(line: &[u8], number: usize, scratch: &mut [u8]) -> Option<usize>
-    requires { Line line.now × Scratch scratch.old }
-    ensures { IfSome result (λ n. Within n scratch.new) }
-{
-    protocol::decode(protocol::piece(line, number), scratch)
-}
-
-// Room for the byte strings of a line's fields: a request has three at most.
+// The fields of a line: a request has three at most.
 #[derive(Drop)]
 pub struct Fields {
-    first: [u8; BYTES],
-    second: [u8; BYTES],
-    third: [u8; BYTES],
+    first: Field,
+    second: Field,
+    third: Field,
 }
 
 impl Fields {
     pub fn new() -> Fields {
         Fields {
-            first: [0; BYTES],
-            second: [0; BYTES],
-            third: [0; BYTES],
+            first: Field::new(),
+            second: Field::new(),
+            third: Field::new(),
         }
     }
 
-    fn answer_one(&mut self, line: &[u8], out: &mut [u8]) -> Option<usize>
-        requires { Line line.now × HasRoom out.old }
-        ensures { IfSome result (λ n. n ≤ length out.new) }
+    fn answer_one(&mut self, line: &[u8], out: &mut [u8; ROOM]) -> Option<usize>
+        requires { Line line.now }
+        ensures { IfSome result (λ n. n ≤ room) }
     {
-        let n = field(line, 1, &mut self.first)?;
-        answer_one(protocol::piece(line, 0), &self.first[..n], out)
+        self.first.read(line, 1)?;
+        answer_one(protocol::piece(line, 0), &self.first, out)
     }
 
-    fn answer_two(&mut self, line: &[u8], out: &mut [u8]) -> Option<usize>
-        requires { Line line.now × HasRoom out.old }
-        ensures { IfSome result (λ n. n ≤ length out.new) }
+    fn answer_two(&mut self, line: &[u8], out: &mut [u8; ROOM]) -> Option<usize>
+        requires { Line line.now }
+        ensures { IfSome result (λ n. n ≤ room) }
     {
         let Fields { first, second, .. } = self;
-        let n = field(line, 1, first)?;
-        let m = field(line, 2, second)?;
-        answer_two(protocol::piece(line, 0), &first[..n], &mut second[..m], out)
+        first.read(line, 1)?;
+        second.read(line, 2)?;
+        answer_two(protocol::piece(line, 0), first.bytes(), second, out)
     }
 
     // The one request of two fields and a lent buffer.
-    fn answer_three(&mut self, line: &[u8], out: &mut [u8]) -> Option<usize>
-        requires { Line line.now × HasRoom out.old }
-        ensures { IfSome result (λ n. n ≤ length out.new) }
+    fn answer_three(&mut self, line: &[u8], out: &mut [u8; ROOM]) -> Option<usize>
+        requires { Line line.now }
+        ensures { IfSome result (λ n. n ≤ room) }
     {
         if !matches!(protocol::piece(line, 0), b"violations") {
             return None;
@@ -150,19 +126,18 @@ impl Fields {
             second,
             third,
         } = self;
-        let k = field(line, 3, third)?;
-        let n = field(line, 1, first)?;
-        let m = field(line, 2, second)?;
-        let buf = &mut third[..k];
-        let said = done(verdicts::violations(&first[..n], &second[..m], buf));
-        Some(answers::answer_lent(out, said, buf))
+        third.read(line, 3)?;
+        first.read(line, 1)?;
+        second.read(line, 2)?;
+        let buf = &mut third.room[0..third.len];
+        let said = done(verdicts::violations(first.bytes(), second.bytes(), buf));
+        Some(answers::answer_lent(out, said, third))
     }
 }
 
 // The answer to a line, at the start of out.
-pub fn respond(line: &[u8], fields: &mut Fields, out: &mut [u8]) -> usize
-    requires { HasRoom out.old }
-    ensures { result ≤ length out.new }
+pub fn respond(line: &[u8], fields: &mut Fields, out: &mut [u8; ROOM]) -> usize
+    ensures { result ≤ room }
 {
     if LINE < line.len() {
         return answers::bad_request(out);

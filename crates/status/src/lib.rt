@@ -43,7 +43,7 @@ impl From<StatusKind> for u8 {
 
 impl StatusKind {
     // All kinds, in the order of their codes.
-    const ALL: [StatusKind; 7] = [
+    pub const ALL: [StatusKind; 7] = [
         StatusKind::Muss,
         StatusKind::Soll,
         StatusKind::Kann,

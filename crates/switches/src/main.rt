@@ -1,5 +1,6 @@
 // Holds the switch dates of every year from -999 to 9999 to a count of days from a known Sunday, in which no year is reduced
-// by the period of the weekdays. Writes each date that differs, how many were looked at, and how many of them differ.
+// by the period of the weekdays. Writes each date that differs, how many were looked at, and how many of them differ. A write
+// that fails is passed over.
 
 #![tactic(auto)]
 
@@ -7,7 +8,7 @@ ghost use Rattle.std.specs.Prelude.{◌+◌, ◌-◌, ◌*◌, ◌%◌, ◌≤�
 ghost use Rattle.switches.specs.Switches.{switching, agreeing, differing};
 
 use calendar::ERA_START;
-use std::io::Stdout;
+use std::io::Write;
 
 // The number of the known Sunday, 29 March 2026: a multiple of 7, and so large that no day looked at is below 0.
 const KNOWN_SUNDAY: u32 = 7_000_000;
@@ -23,14 +24,7 @@ const LAST_YEAR: u16 = ERA_START + 9999;
 struct Seen {
     dates: u32,
     differ: u32,
-}
-
-fn say(mut out: Stdout, s: &[u8]) {
-    console::write_all(&mut out, s);
-}
-
-fn say_number(mut out: Stdout, n: u64) {
-    console::print_decimal(&mut out, n);
+    ghost fewer: { differ ≤ dates },
 }
 
 // A year's number without its sign.
@@ -50,18 +44,14 @@ fn year_days(year: u16) -> u32
     }
 }
 
-fn say_differing(out: Stdout, year: u16, month: u8, day: u8) {
-    if year < ERA_START {
-        say(out, b"-");
-    }
-    say_number(out, u64::from(unsigned(year)));
-    say(out, b" month ");
-    say_number(out, u64::from(month));
-    say(out, b": counted ");
-    say_number(out, u64::from(day));
-    say(out, b", answered ");
-    say_number(out, u64::from(calendar::last_sunday(year, month)));
-    say(out, b"\n");
+fn say_differing<W: Write>(out: &mut W, year: u16, month: u8, day: u8) {
+    let sign = if year < ERA_START { "-" } else { "" };
+    let number = unsigned(year);
+    let answered = calendar::last_sunday(year, month);
+    let _ = writeln!(
+        out,
+        "{sign}{number} month {month}: counted {day}, answered {answered}"
+    );
 }
 
 // Whether summer time ends on the day at 01:00, or begins, where the month is not October.
@@ -78,7 +68,8 @@ fn switches(year: u16, month: u8, day: u8) -> bool
     }
 }
 
-// Whether the calendar has the day for the last Sunday, and summer time switches on it.
+// Whether the calendar has the day for the last Sunday, and summer time switches on it: a test of one date, no comparison of two
+// values of a type, so nothing derives it.
 #[tactic(auto, unfolding(crate::specs::Switches::agreeing))]
 fn agrees(year: u16, month: u8, day: u8) -> bool
     ensures { result ≡ agreeing year month day }
@@ -88,14 +79,17 @@ fn agrees(year: u16, month: u8, day: u8) -> bool
 
 // One date more: the last Sunday of a month whose 31st has this number. A date that differs is counted.
 #[tactic(auto, unfolding(crate::specs::Switches::differing))]
-fn look(out: Stdout, seen: Seen, year: u16, month: u8, number: u32) -> Seen
-    requires { (seen.dates ≤ 1000000) × (seen.differ ≤ seen.dates) }
-    ensures { (result.dates ≡ seen.dates + 1) × ((result.differ ≡ seen.differ + differing year month (31 - number % 7)) × (result.differ ≤ result.dates)) }
+fn look<W: Write>(out: &mut W, seen: Seen, year: u16, month: u8, number: u32) -> Seen
+    requires { seen.dates ≤ 1000000 }
+    ensures { (result.dates ≡ seen.dates + 1) × (result.differ ≡ seen.differ + differing year month (31 - number % 7)) }
 {
     let day = (31 - number % 7) as u8;
     let dates = seen.dates + 1;
     if agrees(year, month, day) {
-        return Seen { dates, ..seen };
+        return Seen {
+            dates,
+            differ: seen.differ,
+        };
     }
     say_differing(out, year, month, day);
     Seen {
@@ -105,59 +99,46 @@ fn look(out: Stdout, seen: Seen, year: u16, month: u8, number: u32) -> Seen
 }
 
 // Both dates of a year more; 214 days after 31 March comes 31 October.
-fn look_at_year(out: Stdout, seen: Seen, year: u16, march_31: u32) -> Seen
-    requires { (march_31 ≤ 100000000) × ((seen.dates ≤ 900000) × (seen.differ ≤ seen.dates)) }
-    ensures { (result.dates ≡ seen.dates + 2) × ((result.differ ≡ seen.differ + differing year 3 (31 - march_31 % 7) + differing year 10 (31 - (march_31 + 214) % 7)) × (result.differ ≤ result.dates)) }
+fn look_at_year<W: Write>(out: &mut W, seen: Seen, year: u16, march_31: u32) -> Seen
+    requires { (march_31 ≤ 100000000) × (seen.dates ≤ 900000) }
+    ensures { (result.dates ≡ seen.dates + 2) × (result.differ ≡ seen.differ + differing year 3 (31 - march_31 % 7) + differing year 10 (31 - (march_31 + 214) % 7)) }
 {
-    look(
-        out,
-        look(out, seen, year, 3, march_31),
-        year,
-        10,
-        march_31 + 214,
-    )
+    let seen = look(out, seen, year, 3, march_31);
+    look(out, seen, year, 10, march_31 + 214)
 }
 
-// The 7,974 years from 2026 to 9999.
-fn look_forward(out: Stdout) -> Seen
-    ensures { (result.dates ≡ 2 * 7974) × (result.differ ≤ result.dates) }
+// The days from 31 March of the first year to that of the known one.
+fn days_to_known() -> u32
+    ensures { result ≤ 1107150 }
+{
+    let mut days = 0;
+    for year in FIRST_YEAR + 1..=KNOWN_YEAR {
+        days += year_days(year);
+    }
+    days
+}
+
+// The 10,999 years from -999 to 9999.
+fn look_at_years<W: Write>(out: &mut W) -> Seen
+    ensures { result.dates ≡ 2 * 10999 }
 {
     let mut seen = Seen {
         dates: 0,
         differ: 0,
     };
-    let mut march_31 = KNOWN_SUNDAY + 2;
-    for year in KNOWN_YEAR..=LAST_YEAR {
+    let mut march_31 = KNOWN_SUNDAY + 2 - days_to_known();
+    for year in FIRST_YEAR..=LAST_YEAR {
         seen = look_at_year(out, seen, year, march_31);
         march_31 += year_days(year + 1);
     }
     seen
 }
 
-// The 3,025 years from 2025 back to -999. Counted down, a year's days are taken off before it is looked at, so this is no
-// one function with `look_forward`.
-fn look_back(out: Stdout) -> Seen
-    ensures { (result.dates ≡ 2 * 3025) × (result.differ ≤ result.dates) }
-{
-    let mut seen = Seen {
-        dates: 0,
-        differ: 0,
-    };
-    let mut march_31 = KNOWN_SUNDAY + 2;
-    for ago in 1..=KNOWN_YEAR - FIRST_YEAR {
-        let year = KNOWN_YEAR - ago;
-        march_31 -= year_days(year + 1);
-        seen = look_at_year(out, seen, year, march_31);
-    }
-    seen
-}
-
 fn main(rt: HostRuntime) {
-    let out = rt.stdout();
-    let later = look_forward(out);
-    let earlier = look_back(out);
-    say_number(out, u64::from(later.dates + earlier.dates));
-    say(out, b" switch dates of the years -999 to 9999, ");
-    say_number(out, u64::from(later.differ + earlier.differ));
-    say(out, b" differ\n");
+    let mut out = rt.stdout();
+    let Seen { dates, differ } = look_at_years(&mut out);
+    let _ = writeln!(
+        out,
+        "{dates} switch dates of the years -999 to 9999, {differ} differ"
+    );
 }

@@ -26,15 +26,7 @@ fn say_word<W: Write>(out: &mut W, kind: StatusKind) {
 }
 
 fn words<W: Write>(out: &mut W) {
-    for kind in [
-        StatusKind::Muss,
-        StatusKind::Soll,
-        StatusKind::Kann,
-        StatusKind::X,
-        StatusKind::M,
-        StatusKind::S,
-        StatusKind::K,
-    ] {
+    for kind in StatusKind::ALL {
         say_word(out, kind);
     }
 }

@@ -34,5 +34,5 @@ abbrev pub part : ℕ → ℕ → List ℕ → List ℕ
 part from count s = take count (drop from s)
 
 -- a list put over the front of another: behind it stands what stood there
-abbrev pub over : List ℕ → List ℕ → List ℕ
+abbrev pub over : {A : Type 0} → List A → List A → List A
 over s old = s ++ drop (length s) old

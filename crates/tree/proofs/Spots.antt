@@ -13,7 +13,8 @@ use Rattle.grammar.specs.Bytes.{head_size, row_size, field, nodes, cites, cites_
 use Rattle.grammar.specs.Shape.{Shape, shape}
 use Rattle.grammar.specs.Pack.{rows_length, texts-length}
 use Rattle.grammar.proofs.Trees.{tests}
-use Rattle.tree.specs.Walk.{row_from, node_kind, number_at, first_at}
+use Rattle.grammar.specs.Kinds.{node_kind, kind_number, sign-number}
+use Rattle.tree.specs.Walk.{row_from, number_at, first_at}
 use Rattle.tree.proofs.Steps.{drop-from}
 
 -- the number in the row of an expression whose first citation has the number n
@@ -22,11 +23,11 @@ row_number n (cite t) = n
 row_number n (Then es) = many es
 row_number n (join o es) = many es
 
-rows_head : (n : ℕ) (e : Expr) → rows n e ≡ row (node_kind e) (row_number n e) (span e) ∷ rows_of n (children e)
-unfolding rows node node_kind span children rows_of
+rows_head : (n : ℕ) (e : Expr) → rows n e ≡ row (kind_number (node_kind e)) (row_number n e) (span e) ∷ rows_of n (children e)
+unfolding rows node node_kind kind_number span children rows_of
 rows_head n (cite t) = refl
 rows_head n (Then es) = rw (rows_spans n es)
-rows_head n (join o es) = rw (rows_spans n es)
+rows_head n (join o es) = rw (rows_spans n es, sign-number o)
 
 suffix : (c n : ℕ) (rs : List Row) → rows_ok n c rs ≡ true → (i : ℕ) → i ≤ length rs → (m : ℕ) × (rows_ok m c (drop i rs) ≡ true)
 unfolding rows_ok
@@ -43,7 +44,7 @@ pub record Spot (b : List ℕ) (i : ℕ) : Type 0 where
   pub forest : forest_at b i ≡ e ◂ st
   pub below : forest_at b (i + 1) ≡ children e ⧺ st
   pub after : forest_at b (i + span e) ≡ st
-  pub kind : field b (row_from i) ≡ node_kind e
+  pub kind : field b (row_from i) ≡ kind_number (node_kind e)
   pub number : number_at b i ≡ row_number n e
   pub size : field b (row_from i + 4) ≡ span e
   pub wide : Wide e
@@ -95,7 +96,7 @@ spot_by b i l n e st w few is cited built =
     let total : nodes b - i ≡ span e + length (rows_of (n + count e) st) =
     sym (rows_length b (nodes b - i) (row_from i)) ∙ ap length is ∙ length-append (rows n e) (rows_of (n + count e) st) ∙ rw (rows_span n e) in
     let inside : i + span e ≤ nodes b = omega arith in
-    let f = row_same _ _ _ (node_kind e) (row_number n e) (span e) _ _ (sym (first-row b (nodes b - i) (row_from i) (omega arith)) ∙ is ∙ ap (λ x. x ++ rows_of (n + count e) st) (rows_head n e)) in
+    let f = row_same _ _ _ (kind_number (node_kind e)) (row_number n e) (span e) _ _ (sym (first-row b (nodes b - i) (row_from i) (omega arith)) ∙ is ∙ ap (λ x. x ++ rows_of (n + count e) st) (rows_head n e)) in
     let forest : forest_at b i ≡ e ◂ st = found b i (e ◂ st) built in
     let c = texts-count b in
     let size = ap length cited ∙ length-append (citations e) (citations_of st) in

@@ -15,12 +15,14 @@ use Rattle.refusal.specs.declared.Refusal.TheVariants.{NotATree}
 use Rattle.grammar.specs.Expr.{And, Or, Xor, Expr, Exprs, cite, Then, join, none, more, ◌◂◌, ◌⧺◌, citations, citations_of, count, citations_append}
 use Rattle.grammar.proofs.Expr.{append_none, appends_assoc}
 use Rattle.grammar.specs.Reading.{Fits}
-use Rattle.grammar.specs.Rows.{op_kind, many, span, spans, firsts, children, build, rows_span}
+use Rattle.grammar.specs.Rows.{many, span, spans, firsts, children, build, rows_span}
 use Rattle.grammar.specs.Bytes.{head_size, nodes, cites, cites_at, texts_at, rows_from, rows_in, texts_in, is_tree, forest_at, tree_at, tree_of}
 use Rattle.grammar.proofs.Shape.{span_some}
 use Rattle.grammar.specs.Pack.{rows_length}
 use Rattle.grammar.proofs.Trees.{tests, rooted_in}
-use Rattle.tree.specs.Walk.{node_kind, number_at, first_at, text_at}
+use Rattle.grammar.specs.Kinds.{node_kind, sign_kind}
+use Rattle.grammar.specs.declared.NodeKind.TheVariants.{Citation}
+use Rattle.tree.specs.Walk.{number_at, first_at, text_at}
 use Rattle.tree.proofs.Spots.{spot, found, tree-first, row_number, texts-count}
 use Rattle.tree.proofs.Cites.{texts-stand}
 
@@ -77,15 +79,6 @@ root b h =
       first = first_none b (e ◂ none) forest (length-append (citations e) [] ∙ omega (arith, counts));
     }
 
--- kinds are at most 4
-pub kind_small : (e : Expr) → node_kind e ≤ 4
-unfolding node_kind op_kind
-kind_small (cite t) = omega arith
-kind_small (Then es) = omega arith
-kind_small (join And es) = omega arith
-kind_small (join Or es) = omega arith
-kind_small (join Xor es) = omega arith
-
 -- what a citation's row says: its number, which is that of the first citation from there on, and its text
 pub record Leaf (b : List ℕ) (row : ℕ) : Type 0 where
   pub number : number_at b row < cites b
@@ -96,21 +89,21 @@ leaf_text : (b : List ℕ) (n : ℕ) (t : List ℕ) (x : List (List ℕ)) → dr
 unfolding text_at
 leaf_text b n t x c = sym (rw add-zero at (get_or-drop n (texts_in b) 0 [])) ∙ rw c
 
-leaf_by : (b : List ℕ) (row : ℕ) (e : Expr) → node_kind e ≡ 0 → (st : Exprs) (n : ℕ) → tree_at b row ≡ e → number_at b row ≡ row_number n e → drop n (texts_in b) ≡ citations e ++ citations_of st → n ≡ first_at b row → n + count e ≤ cites b → Leaf b row
-unfolding node_kind citations op_kind
+leaf_by : (b : List ℕ) (row : ℕ) (e : Expr) → node_kind e ≡ Citation → (st : Exprs) (n : ℕ) → tree_at b row ≡ e → number_at b row ≡ row_number n e → drop n (texts_in b) ≡ citations e ++ citations_of st → n ≡ first_at b row → n + count e ≤ cites b → Leaf b row
+unfolding node_kind citations sign_kind
 leaf_by b row (cite t) k st n is num cited first within =
     record {
       number = omega (arith, num, within);
       is = is ∙ ap cite (sym (ap (text_at b) num ∙ leaf_text b n t (citations_of st) cited));
       first = num ∙ first;
     }
-leaf_by b row (Then es) k st n is num cited first within = absurd (omega arith)
-leaf_by b row (join And es) k st n is num cited first within = absurd (omega arith)
-leaf_by b row (join Or es) k st n is num cited first within = absurd (omega arith)
-leaf_by b row (join Xor es) k st n is num cited first within = absurd (omega arith)
+leaf_by b row (Then es) k st n is num cited first within = cc
+leaf_by b row (join And es) k st n is num cited first within = cc
+leaf_by b row (join Or es) k st n is num cited first within = cc
+leaf_by b row (join Xor es) k st n is num cited first within = cc
 
--- a row of kind 0 is a citation's
-pub leaf : (b : List ℕ) → is_tree b ≡ true → (row : ℕ) → row < nodes b → node_kind (tree_at b row) ≡ 0 → Leaf b row
+-- a citation's row
+pub leaf : (b : List ℕ) → is_tree b ≡ true → (row : ℕ) → row < nodes b → node_kind (tree_at b row) ≡ Citation → Leaf b row
 leaf b h row l k =
     let s = spot b h row l in
     leaf_by b row s.e (sym (ap node_kind s.tree) ∙ k) s.st s.n s.tree s.number s.cited s.first (omega (arith, s.total))
@@ -123,13 +116,13 @@ pub record Walk (b : List ℕ) (row left child : ℕ) : Type 0 where
   pub within : child ≤ nodes b
   pub number : first_at b child ≡ first_at b row + length (citations_of done)
 
-number_inner : (n : ℕ) (e : Expr) → (node_kind e ≡ 0 → ⊥) → row_number n e ≡ many (children e)
+number_inner : (n : ℕ) (e : Expr) → (node_kind e ≡ Citation → ⊥) → row_number n e ≡ many (children e)
 unfolding node_kind children
 number_inner n (cite t) h = absurd (h refl)
 number_inner n (Then es) h = refl
 number_inner n (join o es) h = refl
 
-cites-inner : (e : Expr) → (node_kind e ≡ 0 → ⊥) → citations_of (children e) ≡ citations e
+cites-inner : (e : Expr) → (node_kind e ≡ Citation → ⊥) → citations_of (children e) ≡ citations e
 unfolding node_kind children citations
 cites-inner (cite t) h = absurd (h refl)
 cites-inner (Then es) h = refl
@@ -140,27 +133,27 @@ unfolding first_at
 first_of b i es h = rw h
 
 -- the children of the node at a row stand from the next row on, as many as its row says
-pub children-at : (b : List ℕ) → is_tree b ≡ true → (row : ℕ) → row < nodes b → (node_kind (tree_at b row) ≡ 0 → ⊥)
+pub children-at : (b : List ℕ) → is_tree b ≡ true → (row : ℕ) → row < nodes b → (node_kind (tree_at b row) ≡ Citation → ⊥)
     → (children (tree_at b row) ≡ firsts (number_at b row) (forest_at b (row + 1))) × (many (children (tree_at b row)) ≡ number_at b row)
 children-at b h row l k =
     let s = spot b h row l in
-    let no : node_kind s.e ≡ 0 → ⊥ = λ q. k (ap node_kind s.tree ∙ q) in
+    let no : node_kind s.e ≡ Citation → ⊥ = λ q. k (ap node_kind s.tree ∙ q) in
     let num : number_at b row ≡ many (children s.e) = s.number ∙ number_inner s.n s.e no in
     let kids : firsts (number_at b row) (forest_at b (row + 1)) ≡ children s.e = rw (s.below, num) (firsts-all (children s.e) s.st) in
     (ap children s.tree ∙ sym kids, ap (λ x. many (children x)) s.tree ∙ sym num)
 
 -- the first child's first citation is the node's
-pub first_below : (b : List ℕ) → is_tree b ≡ true → (row : ℕ) → row < nodes b → (node_kind (tree_at b row) ≡ 0 → ⊥) → first_at b (row + 1) ≡ first_at b row
+pub first_below : (b : List ℕ) → is_tree b ≡ true → (row : ℕ) → row < nodes b → (node_kind (tree_at b row) ≡ Citation → ⊥) → first_at b (row + 1) ≡ first_at b row
 unfolding citations_of
 first_below b h row l k =
     let s = spot b h row l in
-    let no : node_kind s.e ≡ 0 → ⊥ = λ q. k (ap node_kind s.tree ∙ q) in
+    let no : node_kind s.e ≡ Citation → ⊥ = λ q. k (ap node_kind s.tree ∙ q) in
     let cited : citations_of (children s.e ⧺ s.st) ≡ citations_of (s.e ◂ s.st) =
     citations_append (children s.e) s.st ∙ ap (λ x. x ++ citations_of s.st) (cites-inner s.e no) in
     first_of b (row + 1) (children s.e ⧺ s.st) s.below ∙ ap (λ x. cites b - length x) cited ∙ sym (first_of b row (s.e ◂ s.st) s.forest)
 
 -- before the first child
-pub walk_begins : (b : List ℕ) → is_tree b ≡ true → (row : ℕ) → row < nodes b → (node_kind (tree_at b row) ≡ 0 → ⊥) → Walk b row (number_at b row) (row + 1)
+pub walk_begins : (b : List ℕ) → is_tree b ≡ true → (row : ℕ) → row < nodes b → (node_kind (tree_at b row) ≡ Citation → ⊥) → Walk b row (number_at b row) (row + 1)
 unfolding ◌⧺◌ citations_of
 walk_begins b h row l k =
     let c = children-at b h row l k in
@@ -261,3 +254,21 @@ pub walk_ends : (b : List ℕ) (row left child : ℕ) (w : Walk b row left child
 unfolding firsts
 walk_ends b row zero child w h = w.whole ∙ append_none w.done
 walk_ends b row (suc left) child w h = absurd (omega arith)
+
+-- a step of a walk over rows: the next is a row, and the rest is fewer by one
+pub row_next : (b : List ℕ) → is_tree b ≡ true → (left child : ℕ) → child ≤ nodes b → many (firsts left (forest_at b child)) ≡ left → 0 < left
+    → (child < nodes b) × (child + span (tree_at b child) ≤ nodes b) × (many (firsts (left - 1) (forest_at b (child + span (tree_at b child)))) ≡ left - 1)
+row_next b tree left child w c h =
+    let l = next_in b left child h w c in
+    let p = spot b tree child l in
+    let on : forest_at b (child + span (tree_at b child)) ≡ p.st = ap (λ x. forest_at b (child + span x)) p.tree ∙ p.after in
+    let cut : firsts left (forest_at b child) ≡ p.e ◂ firsts (left - 1) p.st = ap (firsts left) p.forest ∙ firsts_more left p.e p.st h in
+    (l, omega (arith, ap span p.tree, p.inside), ap (λ x. many (firsts (left - 1) x)) on ∙ many_less p.e (firsts (left - 1) p.st) left (sym (ap many cut) ∙ c))
+
+-- the walk begins at the next row
+pub children_next : (b : List ℕ) → is_tree b ≡ true → (row : ℕ) → row < nodes b → (node_kind (tree_at b row) ≡ Citation → ⊥) → {left : ℕ} → left ≡ number_at b row → many (firsts left (forest_at b (row + 1))) ≡ left
+children_next b h row l k e = let c = children-at b h row l k in rw e (ap many (sym c.0) ∙ c.1)
+
+-- the child that a walk gives is the next
+pub next_given : (b : List ℕ) → is_tree b ≡ true → {row left from child : ℕ} → Walk b row left from → child ≡ from → 0 < left → Next b row left child
+next_given b h {row} {left} {from} w e s = rw e (walk_next b h row left from w s)

@@ -1,18 +1,11 @@
 -- What stands at a row of tree bytes. Assumes nothing.
 use Rattle.std.specs.Prelude.{List, [], ℕ, ◌+◌, ◌-◌, ◌*◌, length, get_or}
-use Rattle.grammar.specs.Expr.{Expr, cite, Then, join, citations_of}
-use Rattle.grammar.specs.Rows.{cite_kind, then_kind, op_kind}
+use Rattle.grammar.specs.Expr.{citations_of}
 use Rattle.grammar.specs.Bytes.{head_size, row_size, cite_size, field, cites, cites_at, texts_at, texts_in, forest_at}
 
 -- the byte at which the row i begins
 abbrev pub row_from : ℕ → ℕ
 row_from i = head_size + row_size * i
-
--- the kind in an expression's row
-unfoldable pub node_kind : Expr → ℕ
-node_kind (cite t) = cite_kind
-node_kind (Then es) = then_kind
-node_kind (join o es) = op_kind o
 
 -- the number in the row i: of children, or the citation's number
 abbrev pub number_at : List ℕ → ℕ → ℕ

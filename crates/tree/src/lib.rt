@@ -1,16 +1,24 @@
-// The tree as bytes: whether a byte string is one (refusal 15), what stands in its rows, and its citations' texts.
+// The tree as bytes: whether a byte string is one (refusal 15), what stands in its rows, and its citations' texts. Callers hold a
+// tree as bytes in memory of their own, without a heap, so a node is a row's number.
 
 #![tactic(auto)]
 
-ghost use Rattle.std.specs.Prelude.{◌≡◌, true, ◌+◌, ◌*◌, ◌-◌, ◌≤◌, ◌<◌, length, drop};
+ghost use Rattle.std.specs.Prelude.{◌≡◌, true, false, ◌+◌, ◌*◌, ◌-◌, ◌≤◌, ◌<◌, MatchOption, length, drop};
 ghost use Rattle.grammar.specs.Citable.{citable};
-ghost use Rattle.grammar.specs.Rows.{span};
-ghost use Rattle.grammar.specs.Bytes.{head_size, row_size, cite_size, nodes, cites, texts_at, row_at, rows_from, head_ok, tiles, row_ok, counted, rows_ok, cites_ok, is_tree, tree_at};
-ghost use Rattle.tree.specs.Walk.{node_kind, number_at, text_at, text_from, text_size};
+ghost use Rattle.grammar.specs.Rows.{many, span, firsts};
+ghost use Rattle.grammar.specs.Bytes.{head_size, row_size, cite_size, nodes, cites, texts_at, row_at, rows_from, head_ok, tiles, row_ok, counted, rows_ok, cites_ok, is_tree, forest_at, tree_at};
+ghost use Rattle.grammar.specs.Kinds.{node_kind};
+ghost use Rattle.grammar.specs.declared.NodeKind.TheVariants.{Citation};
+ghost use Rattle.std.specs.Result.{MatchResult};
+ghost use Rattle.std.specs.Iterator.{at_most};
+ghost use Rattle.refusal.specs.declared.Refusal.TheVariants.{NotATree};
+ghost use Rattle.tree.specs.Walk.{row_from, cite_from, number_at, text_at, text_from, text_size};
 ghost use Rattle.tree.specs.Cited.{cited_answer};
 ghost use Rattle.tree.specs.Plain.{is_plain, all_plain, PlainIf};
 
 use fields::get16;
+use grammar::NodeKind;
+pub use grammar::{CITATION_LIMIT, CITED_LIMIT};
 use refusal::Refusal;
 use text::between;
 use utf8::{Step, is_white, step_at};
@@ -22,11 +30,7 @@ pub const ROW_SIZE: usize = 6;
 
 pub const CITE_SIZE: usize = 4;
 
-// The most citations, the most bytes in them, the most nodes, and the most bytes of a tree.
-pub const CITATION_LIMIT: usize = 256;
-
-pub const CITED_LIMIT: usize = 2048;
-
+// The most nodes, and the most bytes of a tree.
 pub const NODE_LIMIT: usize = 511;
 
 pub const TREE_LIMIT: usize = 6150;
@@ -162,7 +166,7 @@ fn is_plain(b: u8) -> bool
     b.is_ascii_graphic() && b != 0x5D
 }
 
-// Whether every byte is plain. All are looked at: a loop with one way out is compiled to many bytes a turn.
+// Whether every byte is plain. All are looked at: a loop with one way out is compiled to many bytes a turn, as utf8's `all_ascii`.
 fn all_plain(s: &[u8]) -> bool
     ensures { result ≡ all_plain s.now }
 {
@@ -173,7 +177,7 @@ fn all_plain(s: &[u8]) -> bool
     plain
 }
 
-// A citation's text, as `is_citable`; if `plain`, its bytes are known to be plain.
+// A citation's text, as `is_citable`; if `plain`, its bytes are known to be plain, which was found once for all texts.
 fn text_ok(text: &[u8], plain: bool) -> bool
     requires { PlainIf plain text.now }
     ensures { result ≡ citable text.now }
@@ -230,87 +234,156 @@ pub fn is_tree(tree: &[u8]) -> bool
     cites_ok(tree, base, c, HEAD_SIZE + ROW_SIZE * n, plain)
 }
 
-// How many node rows a tree has.
-pub fn node_count(tree: &[u8]) -> usize
-    requires { is_tree tree.now ≡ true }
-    ensures { (result ≡ nodes tree.now) × (result < 65536) }
-{
-    get16(tree, 0)
+// Bytes that are a tree.
+#[derive(Clone, Copy)]
+pub struct Tree<'a> {
+    pub bytes: &'a [u8],
+    ghost tested: { is_tree bytes.now ≡ true },
 }
 
-// How many citations a tree has.
-pub fn cite_count(tree: &[u8]) -> usize
-    requires { is_tree tree.now ≡ true }
-    ensures { (result ≡ cites tree.now) × (result ≤ 256) }
-{
-    get16(tree, 2)
+impl<'a> Tree<'a> {
+    // The tree that the bytes are; 15 if they are none.
+    pub fn new(bytes: &'a [u8]) -> Result<Self, Refusal>
+        ensures { MatchResult result (λ tree. tree.bytes.now ≡ bytes.entry.now) (λ why. (why ≡ NotATree) × (is_tree bytes.entry.now ≡ false)) }
+    {
+        if !is_tree(bytes) {
+            return Err(Refusal::NotATree);
+        }
+        Ok(Tree { bytes })
+    }
+
+    // How many node rows it has.
+    pub fn node_count(self) -> usize
+        ensures { (result ≡ nodes self.entry.bytes.now) × (result < 65536) }
+    {
+        get16(self.bytes, 0)
+    }
+
+    // How many citations it has.
+    pub fn cite_count(self) -> usize
+        ensures { (result ≡ cites self.entry.bytes.now) × (result ≤ 256) }
+    {
+        get16(self.bytes, 2)
+    }
+
+    // The byte at which a row begins.
+    // A row is a number with a bound, as a slice's index is: a handle of tree and row would be proved at each child instead, and clauses would say `node.tree.bytes.now` and `node.row`.
+    fn row_from(self, row: usize) -> usize
+        requires { row < nodes self.bytes.now }
+        ensures { (result ≡ row_from row) × (result + row_size ≤ length self.entry.bytes.now) }
+    {
+        HEAD_SIZE + ROW_SIZE * row
+    }
+
+    // The byte at which a citation's row begins.
+    fn cite_from(self, number: usize) -> usize
+        requires { number < cites self.bytes.now }
+        ensures { (result ≡ cite_from self.entry.bytes.now number) × (result + cite_size ≤ length self.entry.bytes.now) }
+    {
+        HEAD_SIZE + ROW_SIZE * self.node_count() + CITE_SIZE * number
+    }
+
+    // The kind of the node at a row.
+    pub fn kind_at(self, row: usize) -> NodeKind
+        requires { row < nodes self.bytes.now }
+        ensures { result ≡ node_kind (tree_at self.entry.bytes.now row) }
+    {
+        NodeKind::from(get16(self.bytes, self.row_from(row)))
+    }
+
+    // The number in a row: of children, or the citation's number.
+    pub fn number_at(self, row: usize) -> usize
+        requires { row < nodes self.bytes.now }
+        ensures { (result ≡ number_at self.entry.bytes.now row) × (result < 65536) }
+    {
+        get16(self.bytes, self.row_from(row) + 2)
+    }
+
+    // The rows in the subtree at a row.
+    pub fn size_at(self, row: usize) -> usize
+        requires { row < nodes self.bytes.now }
+        ensures { (result ≡ span (tree_at self.entry.bytes.now row)) × (result < 65536) }
+    {
+        get16(self.bytes, self.row_from(row) + 4)
+    }
+
+    // The rows of the children of the node at a row.
+    pub fn children(self, row: usize) -> Children<'a>
+        requires { (row < nodes self.bytes.now) × ¬ (node_kind (tree_at self.bytes.now row) ≡ Citation) }
+        ensures { (result.tree.bytes.now ≡ self.entry.bytes.now) × (result.row ≡ row + 1) × (result.left ≡ number_at self.entry.bytes.now row) }
+    {
+        Children {
+            tree: self,
+            row: row + 1,
+            left: self.number_at(row),
+        }
+    }
+
+    // The byte at which a citation's text begins.
+    pub fn text_start(self, number: usize) -> usize
+        requires { number < cites self.bytes.now }
+        ensures { (result ≡ text_from self.entry.bytes.now number) × (result ≤ length self.entry.bytes.now) }
+    {
+        let base = HEAD_SIZE + ROW_SIZE * self.node_count() + CITE_SIZE * self.cite_count();
+        base + get16(self.bytes, self.cite_from(number))
+    }
+
+    // The length of a citation's text.
+    pub fn text_size(self, number: usize) -> usize
+        requires { number < cites self.bytes.now }
+        ensures { (result ≡ text_size self.entry.bytes.now number) × (result < 65536) }
+    {
+        get16(self.bytes, self.cite_from(number) + 2)
+    }
+
+    // A citation's text.
+    pub fn text_at(self, number: usize) -> &'a [u8]
+        requires { number < cites self.bytes.now }
+        ensures { result.now ≡ text_at self.entry.bytes.now number }
+    {
+        between(self.bytes, self.text_start(number), self.text_size(number))
+    }
 }
 
-// The kind in a row: 0 a citation, 1 Then, 2 And, 3 Or, 4 Xor.
-pub fn kind_at(tree: &[u8], row: usize) -> usize
-    requires { (is_tree tree.now ≡ true) × (row < nodes tree.now) }
-    ensures { (result ≡ node_kind (tree_at tree.now row)) × (result ≤ 4) }
-{
-    get16(tree, HEAD_SIZE + ROW_SIZE * row)
+// The rows of a node's children from `row` on, `left` of them.
+#[derive(Drop)]
+pub struct Children<'a> {
+    pub tree: Tree<'a>,
+    pub row: usize,
+    pub left: usize,
+    ghost within: { row ≤ nodes tree.bytes.now },
+    ghost counted: { many (firsts left (forest_at tree.bytes.now row)) ≡ left },
 }
 
-// The number in a row: of children, or the citation's number.
-pub fn number_at(tree: &[u8], row: usize) -> usize
-    requires { (is_tree tree.now ≡ true) × (row < nodes tree.now) }
-    ensures { (result ≡ number_at tree.now row) × (result < 65536) }
-{
-    get16(tree, HEAD_SIZE + ROW_SIZE * row + 2)
-}
+impl<'a> Iterator for Children<'a> {
+    type Item = usize;
 
-// The rows in the subtree at a row.
-pub fn size_at(tree: &[u8], row: usize) -> usize
-    requires { (is_tree tree.now ≡ true) × (row < nodes tree.now) }
-    ensures { (result ≡ span (tree_at tree.now row)) × (result < 65536) }
-{
-    get16(tree, HEAD_SIZE + ROW_SIZE * row + 4)
-}
+    // The next child's row, and then the rows after its subtree are left; nothing if none is left.
+    ghost next_gives = { λ old given new. MatchOption given (old.left ≡ 0) (λ child. (child ≡ old.row) × (0 < old.left) × (new.tree.bytes.now ≡ old.tree.bytes.now) × (new.row ≡ child + span (tree_at old.tree.bytes.now child)) × (new.left ≡ old.left - 1)) };
 
-// The byte at which a citation's text begins.
-pub fn text_start(tree: &[u8], number: usize) -> usize
-    requires { (is_tree tree.now ≡ true) × (number < cites tree.now) }
-    ensures { (result ≡ text_from tree.now number) × (result ≤ length tree.now) }
-{
-    let n = node_count(tree);
-    let c = cite_count(tree);
-    HEAD_SIZE
-        + ROW_SIZE * n
-        + CITE_SIZE * c
-        + get16(tree, HEAD_SIZE + ROW_SIZE * n + CITE_SIZE * number)
-}
+    ghost remaining = { λ c. at_most c.left };
 
-// The length of a citation's text.
-pub fn text_size(tree: &[u8], number: usize) -> usize
-    requires { (is_tree tree.now ≡ true) × (number < cites tree.now) }
-    ensures { (result ≡ text_size tree.now number) × (result < 65536) }
-{
-    let n = node_count(tree);
-    get16(tree, HEAD_SIZE + ROW_SIZE * n + CITE_SIZE * number + 2)
-}
-
-// A citation's text.
-pub fn text_at(tree: &[u8], number: usize) -> &[u8]
-    requires { (is_tree tree.now ≡ true) × (number < cites tree.now) }
-    ensures { result.now ≡ text_at tree.now number }
-{
-    let start = text_start(tree, number);
-    let size = text_size(tree, number);
-    between(tree, start, size)
+    fn next(&mut self) -> Option<usize> {
+        if self.left == 0 {
+            return None;
+        }
+        let child = self.row;
+        *self = Children {
+            tree: self.tree,
+            row: child + self.tree.size_at(child),
+            left: self.left - 1,
+        };
+        Some(child)
+    }
 }
 
 // Where the text of a citation stands.
 pub fn cited(tree: &[u8], number: usize) -> Result<Option<(usize, usize)>, Refusal>
     ensures { result ≡ cited_answer tree.now number }
 {
-    if !is_tree(tree) {
-        return Err(Refusal::NotATree);
-    }
-    if cite_count(tree) <= number {
+    let tree = Tree::new(tree)?;
+    if tree.cite_count() <= number {
         return Ok(None);
     }
-    Ok(Some((text_start(tree, number), text_size(tree, number))))
+    Ok(Some((tree.text_start(number), tree.text_size(number))))
 }

@@ -12,7 +12,7 @@ use refusal::Refusal;
 // A row of table 3-7: how many bytes follow, the second byte's range, the first byte's part of the code.
 type Lead = (usize, u8, u8, u32);
 
-// The character at a place.
+// The character at a place. Every caller tells the three apart, so they stand side by side and not as an `Option` of a `Result`.
 #[derive(Clone, Copy)]
 pub enum Step {
     Char { code: u32, width: usize },
@@ -95,7 +95,8 @@ pub fn step_at(s: &[u8], at: usize) -> Step
     }
 }
 
-// Whether every byte is ASCII. All are looked at: a loop with one way out is compiled to many bytes a turn.
+// Whether every byte is ASCII. All are looked at: a loop with one way out is compiled to many bytes a turn. Crate tree has
+// such a loop with another test: one function of the test would need a contract that is longer than both.
 fn all_ascii(s: &[u8]) -> bool
     ensures { result ≡ all_ascii s.now }
 {

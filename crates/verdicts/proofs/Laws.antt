@@ -7,7 +7,6 @@ use mathlib.Core.Bool.{Bool, true, false, not}
 use Prim.Native.Nat.{ℕ, zero, suc, ◌+◌, ◌-◌, ◌/◌, ◌≤◌, ◌<◌}
 use native.Mathlib.Omega.{arith}
 use lib.ListN.{length, take, length-append}
-use borrow.Author.Tests.{lt-ltb, le-ltb}
 use Rattle.refusal.specs.Result.{then, map_ok}
 use Rattle.refusal.specs.declared.Refusal.{Refusal}
 use Rattle.refusal.specs.declared.Refusal.TheVariants.{NotATree, NoRoom, WrongAnswers}
@@ -17,11 +16,14 @@ use Rattle.citation.specs.declared.ConditionKind.TheVariants.{Voraussetzung, Hin
 use Rattle.citation.specs.Kinds.{kind_of}
 use Rattle.citation.specs.declared.Truth.{Truth}
 use Rattle.citation.specs.declared.Truth.TheVariants.{False, Unknown, True, Neutral}
-use Rattle.formats.specs.declared.FormatVerdict.{FormatVerdict}
 use Rattle.formats.specs.Table.{verdict}
 use Rattle.formats.specs.Answers.{verdict_truth}
-use Rattle.grammar.specs.Expr.{And, Or, Xor, Expr, Exprs, cite, Then, join, none, ◌◂◌, ◌⧺◌, citations, citations_of, count, citations_append}
-use Rattle.grammar.specs.Rows.{op_kind, span, firsts, children}
+use Rattle.grammar.specs.Expr as expr
+use Rattle.grammar.specs.Expr.{Expr, Exprs, cite, join, none, ◌◂◌, ◌⧺◌, citations, citations_of, count, citations_append}
+use Rattle.grammar.specs.Rows.{span, firsts, children}
+use Rattle.grammar.specs.Kinds.{node_kind, sign_kind}
+use Rattle.grammar.specs.declared.NodeKind.{NodeKind}
+use Rattle.grammar.specs.declared.NodeKind.TheVariants.{Citation}
 use Rattle.grammar.proofs.Sizes.{few-nodes}
 use Rattle.grammar.specs.Bytes.{two_bytes, nodes, cites, is_tree, forest_at, tree_at}
 use Rattle.grammar.specs.Outcome.{Outcome, answer_of, written_of}
@@ -34,7 +36,7 @@ use Rattle.semantics.specs.Presence.{answers_fit}
 use Rattle.semantics.specs.Answers.{presence_by, numbered, truth_answer, violations_answer, eval_and_truth_answer}
 use Rattle.fields.specs.Appended.{Appended}
 use Rattle.fields.proofs.Appends.{nothing, both, same, whole, two_size}
-use Rattle.tree.specs.Walk.{node_kind, number_at, first_at, text_at}
+use Rattle.tree.specs.Walk.{number_at, first_at, text_at}
 use Rattle.tree.proofs.Walks.{Walk, Next, leaf, root, no-tree, children-at, first_below, walk_begins, walk_next}
 use denote.Enum.Bare.{sameb}
 use Rattle.citation.specs.contracts.Truth.{the_type}
@@ -113,19 +115,19 @@ cited_room n bytes h = ap length (sym h) ∙ two_size n
 
 module _ (value : List ℕ) where
   -- a node's truth, by its operands'
-  pub node-truth : (n : ℕ) (e : Expr) → (node_kind e ≡ 0 → ⊥) → rule_of (node_kind e) (tallied no_tally (truths_with (counts_on value) n (children e))) ≡ truth_with (counts_on value) n e
-  unfolding rule_of node_kind op_kind children truth_with
+  pub node-truth : (n : ℕ) (e : Expr) → (node_kind e ≡ Citation → ⊥) → rule_of (node_kind e) (tallied no_tally (truths_with (counts_on value) n (children e))) ≡ truth_with (counts_on value) n e
+  unfolding rule_of node_kind sign_kind children truth_with
   node-truth n (cite t) h = absurd (h refl)
-  node-truth n (Then es) h = sym (and_ruled (truths_with (counts_on value) n es))
-  node-truth n (join And es) h = sym (and_ruled (truths_with (counts_on value) n es))
-  node-truth n (join Or es) h = sym (or_ruled (truths_with (counts_on value) n es))
-  node-truth n (join Xor es) h = sym (or_ruled (truths_with (counts_on value) n es))
+  node-truth n (expr.Then es) h = sym (and_ruled (truths_with (counts_on value) n es))
+  node-truth n (join expr.And es) h = sym (and_ruled (truths_with (counts_on value) n es))
+  node-truth n (join expr.Or es) h = sym (or_ruled (truths_with (counts_on value) n es))
+  node-truth n (join expr.Xor es) h = sym (or_ruled (truths_with (counts_on value) n es))
 
   -- and its numbers
-  pub node_violated : (n : ℕ) (e : Expr) → (node_kind e ≡ 0 → ⊥) → violated_of (counts_on value) n (children e) ≡ violated (counts_on value) n e
+  pub node_violated : (n : ℕ) (e : Expr) → (node_kind e ≡ Citation → ⊥) → violated_of (counts_on value) n (children e) ≡ violated (counts_on value) n e
   unfolding node_kind children violated
   node_violated n (cite t) h = absurd (h refl)
-  node_violated n (Then es) h = refl
+  node_violated n (expr.Then es) h = refl
   node_violated n (join o es) h = refl
 
 numbers_append : (a b : List ℕ) → number_bytes (a ++ b) ≡ number_bytes a ++ number_bytes b
@@ -143,6 +145,10 @@ pub record State (value b : List ℕ) (row left child : ℕ) (tally : Tally) (at
   pub numbers : violated_of (counts_on value) (first_at b row) (children (tree_at b row)) ≡ ns ++ violated_of (counts_on value) (first_at b child) (firsts left (forest_at b child))
   pub written : Appended (number_bytes ns) at base list w
   pub kept : length list ≡ length base
+
+-- the child that is given
+pub state_from : {value b : List ℕ} {row left from child : ℕ} {tally : Tally} {at : ℕ} {base list : List ℕ} {w : ℕ} → State value b row left from tally at base list w → child ≡ from → State value b row left child tally at base list w
+state_from s e = rw e s
 
 truths_more : (value : List ℕ) (n : ℕ) (e : Expr) (es : Exprs) → truths_with (counts_on value) n (e ◂ es) ≡ truth_with (counts_on value) n e ∷ truths_with (counts_on value) (n + count e) es
 unfolding truths_with
@@ -191,7 +197,7 @@ leaf_numbers value n m t e h i = sym (rw (h, ← i))
 
 module _ (value b : List ℕ) (tree : is_tree b ≡ true) where
   -- before the first child
-  pub state_begins : (row at : ℕ) (base : List ℕ) → row < nodes b → (node_kind (tree_at b row) ≡ 0 → ⊥) → State value b row (number_at b row) (row + 1) no_tally at base base at
+  pub state_begins : (row at : ℕ) (base : List ℕ) → row < nodes b → (node_kind (tree_at b row) ≡ Citation → ⊥) → State value b row (number_at b row) (row + 1) no_tally at base base at
   state_begins row at base l k =
       let w = walk_begins b tree row l k in
       let kids = (children-at b tree row l k).0 in
@@ -207,7 +213,7 @@ module _ (value b : List ℕ) (tree : is_tree b ≡ true) where
       }
 
   -- the same, by what the code has
-  pub state_starts : (row at m : ℕ) (base : List ℕ) (tally : Tally) → row < nodes b → (node_kind (tree_at b row) ≡ 0 → ⊥) → m ≡ number_at b row → tally ≡ no_tally → State value b row m (row + 1) tally at base base at
+  pub state_starts : (row at m : ℕ) (base : List ℕ) (tally : Tally) → row < nodes b → (node_kind (tree_at b row) ≡ Citation → ⊥) → m ≡ number_at b row → tally ≡ no_tally → State value b row m (row + 1) tally at base base at
   state_starts row at m base tally l k e f =
       subst (λ (x : ℕ). State value b row x (row + 1) tally at base base at) (sym e) (subst (λ x. State value b row (number_at b row) (row + 1) x at base base at) (sym f) (state_begins row at base l k))
 
@@ -231,7 +237,7 @@ module _ (value b : List ℕ) (tree : is_tree b ≡ true) where
         ∙ ap (λ (x : ℕ). truth_with (counts_on value) (first_at b child) e ∷ truths_with (counts_on value) x rest) (sym (next-first b row left child s.walk state_next))
 
     -- there is room for its numbers
-    pub state_room : at + length (numbers_at value b row) ≤ length base → (node_kind (tree_at b row) ≡ 0 → ⊥) → w + length (numbers_at value b child) ≤ length list
+    pub state_room : at + length (numbers_at value b row) ≤ length base → (node_kind (tree_at b row) ≡ Citation → ⊥) → w + length (numbers_at value b child) ≤ length list
     unfolding numbers_at
     state_room room k =
         let first = first_at b row in
@@ -242,15 +248,14 @@ module _ (value b : List ℕ) (tree : is_tree b ≡ true) where
         omega (arith, room, s.kept, s.written.ends, numbers_length (violated (counts_on value) first (tree_at b row)), numbers_length s.ns, numbers_length here, ap length all, length-append s.ns (here ++ after), length-append here after)
 
     -- after it
-    pub state_again : {new : List ℕ} (size : ℕ) (r : Judged) → size ≡ span (tree_at b child) → RowJudged value b child w list new r → length new ≡ length list → {after : Tally} → after ≡ added tally r.truth
-        → State value b row (left - 1) (child + size) after at base new r.at
+    pub state_again : {new : List ℕ} (r : Judged) → RowJudged value b child w list new r → length new ≡ length list → {after : Tally} → after ≡ added tally r.truth
+        → State value b row (left - 1) (child + span (tree_at b child)) after at base new r.at
     unfolding numbers_at
-    state_again {new} size r z j k {after} t =
+    state_again {new} r j k {after} t =
         let e = tree_at b child in
         let rest = firsts (left - 1) (forest_at b (child + span e)) in
         let one = truth_with (counts_on value) (first_at b child) e in
         let here = violated (counts_on value) (first_at b child) e in
-        let next : State value b row (left - 1) (child + span e) after at base new r.at =
         record {
           walk = state_next.walk;
           vs = s.vs ++ (one ∷ []);
@@ -260,25 +265,24 @@ module _ (value b : List ℕ) (tree : is_tree b ≡ true) where
           numbers = s.numbers ∙ ap (λ x. s.ns ++ x) cut_numbers ∙ sym (append_assoc s.ns here (violated_of (counts_on value) (first_at b (child + span e)) rest));
           written = same (sym (numbers_append s.ns here)) (both s.written j.written);
           kept = k ∙ s.kept;
-        } in
-        subst (λ (x : ℕ). State value b row (left - 1) (child + x) after at base new r.at) (sym z) next
+        }
 
   -- after the last
-  pub state_ends : {row left child at : ℕ} {tally : Tally} {base list : List ℕ} {w : ℕ} → State value b row left child tally at base list w → left ≤ 0 → (kind : ℕ) → kind ≡ node_kind (tree_at b row) → (kind ≡ 0 → ⊥) → (r : Judged)
+  pub state_ends : {row left child at : ℕ} {tally : Tally} {base list : List ℕ} {w : ℕ} → State value b row left child tally at base list w → left ≤ 0 → (kind : NodeKind) → kind ≡ node_kind (tree_at b row) → (kind ≡ Citation → ⊥) → (r : Judged)
       → r.truth ≡ rule_of kind tally → r.at ≡ w → RowJudged value b row at base list r
   unfolding numbers_at
   state_ends {row} {left} {child} {at} {tally} {base} {list} {w} s h kind g k r t q =
-      let no : node_kind (tree_at b row) ≡ 0 → ⊥ = λ y. k (g ∙ y) in
+      let no : node_kind (tree_at b row) ≡ Citation → ⊥ = λ y. k (g ∙ y) in
       let vs : truths_with (counts_on value) (first_at b row) (children (tree_at b row)) ≡ s.vs = s.judged ∙ ap (λ x. s.vs ++ truths_with (counts_on value) (first_at b child) x) (firsts-zero left (forest_at b child) h) ∙ no_truths_lem value (first_at b child) s.vs in
       let ns : violated_of (counts_on value) (first_at b row) (children (tree_at b row)) ≡ s.ns = s.numbers ∙ ap (λ x. s.ns ++ violated_of (counts_on value) (first_at b child) x) (firsts-zero left (forest_at b child) h) ∙ no_numbers value (first_at b child) s.ns in
       let bytes : number_bytes s.ns ≡ number_bytes (violated (counts_on value) (first_at b row) (tree_at b row)) = ap number_bytes (sym ns ∙ node_violated value (first_at b row) (tree_at b row) no) in
       record {
-        is = t ∙ ap (λ (x : ℕ). rule_of x tally) g ∙ ap (rule_of (node_kind (tree_at b row))) (s.met ∙ ap (tallied no_tally) (sym vs)) ∙ node-truth value (first_at b row) (tree_at b row) no;
+        is = t ∙ ap (λ x. rule_of x tally) g ∙ ap (rule_of (node_kind (tree_at b row))) (s.met ∙ ap (tallied no_tally) (sym vs)) ∙ node-truth value (first_at b row) (tree_at b row) no;
         written = subst (λ (x : ℕ). Appended (number_bytes (violated (counts_on value) (first_at b row) (tree_at b row))) at base list x) (sym q) (same bytes s.written);
       }
 
   -- a citation's row
-  pub leaf_judged : {row n at : ℕ} {old new : List ℕ} {r : Judged} → row < nodes b → node_kind (tree_at b row) ≡ 0 → n ≡ number_at b row → CitedJudged value n (text_at b n) at old new r → RowJudged value b row at old new r
+  pub leaf_judged : {row n at : ℕ} {old new : List ℕ} {r : Judged} → row < nodes b → node_kind (tree_at b row) ≡ Citation → n ≡ number_at b row → CitedJudged value n (text_at b n) at old new r → RowJudged value b row at old new r
   unfolding numbers_at
   leaf_judged {row} {n} {at} {old} {new} {r} l k e j =
       let f = leaf b tree row l k in
@@ -286,7 +290,7 @@ module _ (value b : List ℕ) (tree : is_tree b ≡ true) where
       record { is = j.is ∙ leaf_truth value (first_at b row) (text_at b n) (tree_at b row) is; written = same (leaf_numbers value n (first_at b row) (text_at b n) (tree_at b row) is (e ∙ f.first)) j.written }
 
   -- its number is a citation's, and there is room for it
-  pub leaf_asked : (row n at size : ℕ) → row < nodes b → node_kind (tree_at b row) ≡ 0 → n ≡ number_at b row → at + length (numbers_at value b row) ≤ size → (n < cites b) × (at + length (cited_numbers value n (text_at b n)) ≤ size)
+  pub leaf_asked : (row n at size : ℕ) → row < nodes b → node_kind (tree_at b row) ≡ Citation → n ≡ number_at b row → at + length (numbers_at value b row) ≤ size → (n < cites b) × (at + length (cited_numbers value n (text_at b n)) ≤ size)
   unfolding numbers_at
   leaf_asked row n at size l k e room =
       let f = leaf b tree row l k in

@@ -2,8 +2,8 @@
 
 #![tactic(auto)]
 
-ghost use Rattle.std.specs.Prelude.{◌≡◌, true, ◌+◌, ◌≤◌, ◌<◌, length};
-ghost use Rattle.grammar.specs.Bytes.{nodes, cites, is_tree, tree_at};
+ghost use Rattle.std.specs.Prelude.{◌≡◌, ◌+◌, ◌≤◌, ◌<◌, length};
+ghost use Rattle.grammar.specs.Bytes.{nodes, cites, tree_at};
 ghost use Rattle.grammar.specs.Outcome.{answer_of, written_of};
 ghost use Rattle.semantics.specs.Truth.{cited_truth};
 ghost use Rattle.semantics.specs.Truth as format;
@@ -15,12 +15,13 @@ ghost use Rattle.verdicts.specs.Judged.{cited_numbers, CitedJudged, RowJudged, n
 use citation::{ConditionKind, Truth};
 use fields::{put_text, put16};
 use formats::verdict_on;
+use grammar::NodeKind;
 use presence::{Tally, answers_fit, eval_tree};
 use refusal::Refusal;
-use tree::{is_tree, kind_at, number_at, size_at, text_at};
+use tree::Tree;
 
 // The bytes that the numbers of all citations of a tree take up.
-const LIST_SIZE: usize = 512;
+pub const LIST_SIZE: usize = 512;
 
 // A row's truth, and the place after the numbers of its violated citations.
 #[derive(Clone, Copy)]
@@ -29,11 +30,15 @@ struct Judged {
     pub at: usize,
 }
 
-// The truth of a node of the kind `k`, by its operands' truths: Then and And, or Or and Xor.
-fn node_truth(tally: Tally, k: usize) -> Truth
-    ensures { result ≡ rule_of k tally }
+// The truth of a node of this kind, by its operands' truths: Then and And, or Or and Xor.
+#[tactic(auto, unfolding(crate::specs::Tallies::rule_of))]
+fn node_truth(tally: Tally, kind: NodeKind) -> Truth
+    ensures { result ≡ rule_of kind tally }
 {
-    if k < 3 { tally.and() } else { tally.or() }
+    match kind {
+        NodeKind::Or | NodeKind::Xor => tally.or(),
+        _ => tally.and(),
+    }
 }
 
 // What a citation counts as.
@@ -47,11 +52,11 @@ fn cited_truth(text: &[u8], value: &[u8]) -> Truth
 }
 
 // The truth of the citation `n`, and its number in the list if it is violated.
-fn judge_cited(tree: &[u8], value: &[u8], n: usize, list: &mut [u8], at: usize) -> Judged
-    requires { (is_tree tree.now ≡ true) × (n < cites tree.now) × (n < 65536) × (at + length (cited_numbers value.now n (text_at tree.now n)) ≤ length list.old) }
-    ensures { CitedJudged value.now n (text_at tree.now n) at list.old list.new result }
+fn judge_cited(tree: Tree, value: &[u8], n: usize, list: &mut [u8], at: usize) -> Judged
+    requires { (n < cites tree.bytes.now) × (n < 65536) × (at + length (cited_numbers value.now n (text_at tree.bytes.now n)) ≤ length list.old) }
+    ensures { CitedJudged value.now n (text_at tree.entry.bytes.now n) at list.old list.new result }
 {
-    let truth = cited_truth(text_at(tree, n), value);
+    let truth = cited_truth(tree.text_at(n), value);
     if truth == Truth::False {
         let next = put16(list, at, n);
         return Judged { truth, at: next };
@@ -60,34 +65,30 @@ fn judge_cited(tree: &[u8], value: &[u8], n: usize, list: &mut [u8], at: usize) 
 }
 
 // The truth of the subtree at a row, and the numbers of its violated citations in the list.
-fn judge_row(tree: &[u8], value: &[u8], row: usize, list: &mut [u8], at: usize) -> Judged
-    requires { (is_tree tree.now ≡ true) × (row < nodes tree.now) × (at + length (numbers_at value.now tree.now row) ≤ length list.old) }
-    ensures { RowJudged value.now tree.now row at list.old list.new result }
+fn judge_row(tree: Tree, value: &[u8], row: usize, list: &mut [u8], at: usize) -> Judged
+    requires { (row < nodes tree.bytes.now) × (at + length (numbers_at value.now tree.bytes.now row) ≤ length list.old) }
+    ensures { RowJudged value.now tree.entry.bytes.now row at list.old list.new result }
 {
-    let k = kind_at(tree, row);
-    let m = number_at(tree, row);
-    if k == 0 {
-        return judge_cited(tree, value, m, list, at);
+    let kind = tree.kind_at(row);
+    if kind == NodeKind::Citation {
+        return judge_cited(tree, value, tree.number_at(row), list, at);
     }
     let mut tally = Tally::new();
-    let mut child = row + 1;
     let mut w = at;
-    for _ in 0..m {
+    for child in tree.children(row) {
         let here = judge_row(tree, value, child, list, w);
         tally = tally.add(here.truth);
         w = here.at;
-        child += size_at(tree, child);
     }
     Judged {
-        truth: node_truth(tally, k),
+        truth: node_truth(tally, kind),
         at: w,
     }
 }
 
-// The format truth of a tree that was tested.
-fn truth_of(tree: &[u8], value: &[u8]) -> Truth
-    requires { is_tree tree.now ≡ true }
-    ensures { result ≡ format.truth value.now (tree_at tree.now 0) }
+// The format truth of a tree.
+fn truth_of(tree: Tree, value: &[u8]) -> Truth
+    ensures { result ≡ format.truth value.now (tree_at tree.entry.bytes.now 0) }
 {
     let mut list = [0u8; LIST_SIZE];
     judge_row(tree, value, 0, &mut list, 0).truth
@@ -97,9 +98,7 @@ fn truth_of(tree: &[u8], value: &[u8]) -> Truth
 pub fn truth(tree: &[u8], value: &[u8]) -> Result<Truth, Refusal>
     ensures { result ≡ truth_answer tree.now value.now }
 {
-    if !is_tree(tree) {
-        return Err(Refusal::NotATree);
-    }
+    let tree = Tree::new(tree)?;
     utf8::admit(value, utf8::VALUE_LIMIT)?;
     Ok(truth_of(tree, value))
 }
@@ -109,9 +108,7 @@ pub fn violations(tree: &[u8], value: &[u8], out: &mut [u8]) -> Result<usize, Re
     ensures result_value { result ≡ answer_of (violations_answer tree.now value.now) (length out.old) }
     ensures out_after { out.new ≡ written_of (violations_answer tree.now value.now) out.old }
 {
-    if !is_tree(tree) {
-        return Err(Refusal::NotATree);
-    }
+    let tree = Tree::new(tree)?;
     utf8::admit(value, utf8::VALUE_LIMIT)?;
     let mut list = [0u8; LIST_SIZE];
     let judged = judge_row(tree, value, 0, &mut list, 0);
@@ -129,9 +126,7 @@ pub fn violations(tree: &[u8], value: &[u8], out: &mut [u8]) -> Result<usize, Re
 pub fn eval_and_truth(tree: &[u8], answers: &[u8], value: &[u8]) -> Result<(Truth, Truth), Refusal>
     ensures { result ≡ eval_and_truth_answer tree.now answers.now value.now }
 {
-    if !is_tree(tree) {
-        return Err(Refusal::NotATree);
-    }
+    let tree = Tree::new(tree)?;
     if !answers_fit(tree, answers) {
         return Err(Refusal::WrongAnswers);
     }

@@ -9,7 +9,10 @@ use lib.ListN.{length, get_or, take, length-append}
 use lib.Seq.{take-suc}
 use Rattle.grammar.specs.Expr.{concat}
 use Rattle.grammar.specs.Rows as grammar
-use Rattle.grammar.specs.Rows.{row}
+use Rattle.grammar.specs.Rows.{row, op_kind}
+use Rattle.grammar.specs.Kinds.{kind_number}
+use Rattle.grammar.specs.declared.NodeKind.{NodeKind}
+use Rattle.grammar.specs.declared.NodeKind.TheVariants.{Citation, Then, And, Or, Xor}
 use Rattle.parser.specs.Packed.{pack}
 use Rattle.parser.specs.declared.Row.{Row}
 use Rattle.fields.specs.Appended.{Appended}
@@ -33,10 +36,10 @@ unfolding unpacked
 one_row v = refl
 
 -- the bytes of the first rows, and of one more
-pub rows_next : (vs : List Row) (i : ℕ) → i < length vs → row_bytes (unpacked (take i vs)) ++ row_bytes (row_of (get_or vs i (pack 0 0 0)) ∷ []) ≡ row_bytes (unpacked (take (i + 1) vs))
+pub rows_next : (vs : List Row) (i : ℕ) → i < length vs → row_bytes (unpacked (take i vs)) ++ row_bytes (row_of (get_or vs i (pack Citation 0 0)) ∷ []) ≡ row_bytes (unpacked (take (i + 1) vs))
 rows_next vs i h =
-    rw (add-one i, take-suc vs i (pack 0 0 0) h)
-    (sym (ap row_bytes (unpacked_append (take i vs) (get_or vs i (pack 0 0 0) ∷ [])) ∙ rows_append (unpacked (take i vs)) (unpacked (get_or vs i (pack 0 0 0) ∷ [])) ∙ ap (λ x. row_bytes (unpacked (take i vs)) ++ row_bytes x) (one_row (get_or vs i (pack 0 0 0)))))
+    rw (add-one i, take-suc vs i (pack Citation 0 0) h)
+    (sym (ap row_bytes (unpacked_append (take i vs) (get_or vs i (pack Citation 0 0) ∷ [])) ∙ rows_append (unpacked (take i vs)) (unpacked (get_or vs i (pack Citation 0 0) ∷ [])) ∙ ap (λ x. row_bytes (unpacked (take i vs)) ++ row_bytes x) (one_row (get_or vs i (pack Citation 0 0)))))
 
 -- the bytes of no rows
 pub rows_none : (vs : List Row) → row_bytes (unpacked (take 0 vs)) ≡ []
@@ -44,9 +47,18 @@ unfolding row_bytes unpacked
 rows_none vs = refl
 
 -- the bytes of one row
-pub row-bytes : (v : Row) → row_bytes (row_of v ∷ []) ≡ two_bytes v.kind ++ (two_bytes v.number ++ two_bytes v.size)
+pub row-bytes : (v : Row) → row_bytes (row_of v ∷ []) ≡ two_bytes (kind_number v.kind) ++ (two_bytes v.number ++ two_bytes v.size)
 unfolding row_bytes row_of
 row-bytes v = rw (append-nil (two_bytes v.size))
+
+-- a kind's number is a field
+pub kind_small : (k : NodeKind) → kind_number k < 65536
+unfolding kind_number op_kind
+kind_small Citation = omega arith
+kind_small Then = omega arith
+kind_small And = omega arith
+kind_small Or = omega arith
+kind_small Xor = omega arith
 
 -- six bytes a row
 pub rows_size : (vs : List Row) → length (row_bytes (unpacked vs)) ≡ 6 * length vs

@@ -2,11 +2,12 @@
 use Rattle.std.specs.Prelude.{List, [], ◌∷◌}
 use Rattle.grammar.specs.Rows as grammar
 use Rattle.grammar.specs.Rows.{row}
+use Rattle.grammar.specs.Kinds.{kind_number}
 use Rattle.parser.specs.declared.Row.{Row}
 
 -- a tree's row: kind, number and size
 unfoldable pub row_of : Row → grammar.Row
-row_of r = row r.kind r.number r.size
+row_of r = row (kind_number r.kind) r.number r.size
 
 -- a tree's rows
 unfoldable pub unpacked : List Row → List grammar.Row

@@ -40,7 +40,7 @@ fn put_row(row: Row, out: &mut [u8], at: usize) -> usize
     requires { at + row_size ≤ length out.old }
     ensures { Appended (row_bytes (row_of row ∷ [])) at out.old out.new result }
 {
-    let a = put16(out, at, row.kind as usize);
+    let a = put16(out, at, usize::from(row.kind));
     let b = put16(out, a, row.number as usize);
     put16(out, b, row.size as usize)
 }

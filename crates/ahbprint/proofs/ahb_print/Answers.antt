@@ -1,14 +1,18 @@
 use mathlib.Core.Path.{sym, ap, ◌∙◌, subst}
-use Rattle.ahb.specs.Numbers.{verdict_number}
+use Rattle.std.proofs.Common.{rules, arith}
 use Rattle.refusal.specs.Known.{Among}
+use Rattle.ahb.specs.Numbers.{accepted_from, verdict_number}
+use Rattle.ahb.proofs.Laws.{answered, accepted_among}
 use Rattle.ahbprint.specs.Sizes.{Printable, print_among}
 use Rattle.ahbprint.proofs.ahb_print.Goals as goal
 
-pub print_number-requires : goal.print_number-requires
-print_number-requires c = subst (λ r. Among Printable r) (sym c.display.ensures.result_value) (print_among _ _)
+pub answer_number-requires : goal.answer_number-requires
+answer_number-requires c = λ x e p q.
+    let k = accepted_among Printable c.display.result (subst (λ r. Among Printable r) (sym c.display.ensures.result_value) (print_among _ _)) x e in
+    omega (arith, k)
 
 pub returns : goal.returns
 returns c = record {
-  value = c.print_number.ensures ∙ ap (λ x. verdict_number x) c.display.ensures.result_value;
+  value = answered accepted_from (λ n. n) _ c.answer_number.result c.display.result (λ x k. search rules) c.answer_number.ensures ∙ ap (λ x. verdict_number x) c.display.ensures.result_value;
   out_after = c.display.ensures.out_after;
 }

@@ -5,7 +5,7 @@ use Rattle.lexer.proofs.Turns.{rests_on, state_start, state_halts, state_on}
 use Rattle.lexer.proofs.lex_all.Goals as goal
 
 pub loop-p-init : goal.loop-p-init
-loop-p-init c = (refl, refl, state_start c.args.text.now c.args.kinds.now c.args.places.now c.requires.2, refl, refl)
+loop-p-init c = (refl, refl, state_start c.args.text.bytes.now c.args.kinds.now c.args.places.now c.args.text.well, refl, refl)
 
 pub returns-in_err-p : goal.returns-in_err-p
 returns-in_err-p c =

@@ -5,4 +5,4 @@ use Rattle.line.proofs.Outcomes.{violations_listed}
 use Rattle.line.proofs.list_violations.Goals as goal
 
 pub returns : goal.returns
-returns c = let r = violations_listed c.args.tree.now c.requires.0 c.args.scratch.now c.violations.new.out c.args.value.now c.requires.1 c.violations.result c.requires.2 c.violations.ensures.result_value c.violations.ensures.out_after in r.1 _ (c.unwrap_or.ensures ∙ ap (λ x. result_unwrap_or x 0) r.0)
+returns c = let r = violations_listed c.args.tree.bytes.now c.args.tree.tested c.args.scratch.now c.violations.new.out c.args.value.now c.requires.0 c.violations.result c.requires.1 c.violations.ensures.result_value c.violations.ensures.out_after in r.1 _ (c.unwrap_or.ensures ∙ ap (λ x. result_unwrap_or x 0) r.0)

@@ -4,14 +4,14 @@ use Rattle.fields.proofs.Appends as appends
 use Rattle.line.proofs.Outcomes.{status_refused, status_alone, status_tree}
 use Rattle.line.proofs.write_lines.Goals as goal
 
-pub slice_bounds-answered_lines-end : goal.slice_bounds-answered_lines-end
-slice_bounds-answered_lines-end c = (status_tree c.args.status.now c.args.answers.now c.args.value.now c.args.tree.now c.parse.new.out c.parse.result c.requires.0 c.parse.ensures.result_value c.parse.ensures.out_after c.in-Ok-default-Some.kind c.in-Ok-default-Some.length (cc)).inside
+pub slice_bounds-tree-end : goal.slice_bounds-tree-end
+slice_bounds-tree-end c = (status_tree c.args.status.now c.args.answers.now c.args.value.now c.args.tree.now c.parse.new.out c.parse.result c.requires.0 c.parse.ensures.result_value c.parse.ensures.out_after c.in-Ok-default-Some.kind c.in-Ok-default-Some.length (cc)).inside
 
-pub slice_bounds-answered_lines-end-in-Ok-default-Some : goal.slice_bounds-answered_lines-end-in-Ok-default-Some
-slice_bounds-answered_lines-end-in-Ok-default-Some c = sym (length-take-le _ _ (status_tree c.args.status.now c.args.answers.now c.args.value.now c.args.tree.now c.parse.new.out c.parse.result c.requires.0 c.parse.ensures.result_value c.parse.ensures.out_after c.in-Ok-default-Some.kind c.in-Ok-default-Some.length (cc)).inside)
+pub slice_bounds-tree-end-in-Ok-default-Some : goal.slice_bounds-tree-end-in-Ok-default-Some
+slice_bounds-tree-end-in-Ok-default-Some c = sym (length-take-le _ _ (status_tree c.args.status.now c.args.answers.now c.args.value.now c.args.tree.now c.parse.new.out c.parse.result c.requires.0 c.parse.ensures.result_value c.parse.ensures.out_after c.in-Ok-default-Some.kind c.in-Ok-default-Some.length (cc)).inside)
 
-pub answered_lines-requires : goal.answered_lines-requires
-answered_lines-requires c = ((status_tree c.args.status.now c.args.answers.now c.args.value.now c.args.tree.now c.parse.new.out c.parse.result c.requires.0 c.parse.ensures.result_value c.parse.ensures.out_after c.in-Ok-default-Some.kind c.in-Ok-default-Some.length (cc)).tree, c.requires.1)
+pub invariant_of-tree : goal.invariant_of-tree
+invariant_of-tree c = record { tested = (status_tree c.args.status.now c.args.answers.now c.args.value.now c.args.tree.now c.parse.new.out c.parse.result c.requires.0 c.parse.ensures.result_value c.parse.ensures.out_after c.in-Ok-default-Some.kind c.in-Ok-default-Some.length (cc)).tree }
 
 pub returns-in-Err : goal.returns-in-Err
 returns-in-Err c = appends.same (status_refused c.args.status.now c.args.answers.now c.args.value.now c.args.tree.now c.parse.new.out c.parse.result c.requires.0 c.parse.ensures.result_value c.parse.ensures.out_after c.in-Err.why c.in-Err.is) c.refused_line.ensures

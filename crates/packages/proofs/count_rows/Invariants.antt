@@ -3,4 +3,4 @@ use Rattle.packages.proofs.Laws.{Counted}
 use Rattle.packages.proofs.count_rows.Given as goal
 
 abbrev pub invariant-loop-n : goal.invariant-loop-n
-invariant-loop-n l = (l.rows ≤ l.n) × Counted l.tree l.n l.rows
+invariant-loop-n l = (l.rows ≤ l.n) × Counted l.tree.bytes.now l.n l.rows

@@ -4,7 +4,7 @@ use Rattle.packages.proofs.Laws.{one_row, one_length, no_row}
 use Rattle.packages.proofs.put_at.Goals as goal
 
 pub put_row-requires : goal.put_row-requires
-put_row-requires c = let h = rw c.in-Ok.is at c.paket_at.ensures in let b = c.requires in (omega (arith, one_length _ _ _ h, b.3), b.2)
+put_row-requires c = let h = rw c.in-Ok.is at c.paket_at.ensures in let b = c.requires in (omega (arith, one_length _ _ _ h, b.2), b.1)
 
 pub returns-in-Ok : goal.returns-in-Ok
 returns-in-Ok c = let h = rw c.in-Ok.is at c.paket_at.ensures in same (one_row _ _ _ h) c.put_row.ensures

@@ -2,8 +2,10 @@ use mathlib.Core.Path.{◌≡◌, refl, sym, ◌∙◌}
 use native.Mathlib.Omega.{arith}
 use lib.ListN.{length}
 use Rattle.std.proofs.lemmas.Result.{err_from_is_err_and}
+use Rattle.lexer.specs.declared.TokenKind.TheVariants.{Citation}
+use Rattle.parser.specs.declared.Pos.{Pos}
 use Rattle.parser.proofs.Ahead.{cites_cite}
-use Rattle.parser.proofs.Turns.{ready_inner, row_left, tree_grew, atom_at_end, atom_none, atom_cited, atom_fails, atom_open, atom_grouped, run_starts, run_breaks, run_goes, jux_one, jux_many, chain_alone, chain_starts, chain_goes, chain_turns, chain_front, kind_pos, turn_before, before_turn}
+use Rattle.parser.proofs.Turns.{ready_inner, row_left, tree_grew, atom_at_end, atom_none, atom_cited, atom_fails, atom_open, atom_grouped, run_starts, run_breaks, run_goes, jux_one, jux_many, chain_alone, chain_starts, chain_goes, chain_grows, chain_ends}
 use Prim.Native.Nat.{◌<◌, ◌≤◌, ◌+◌}
 use Rattle.parser.proofs.+parse.Goals as goal
 
@@ -16,78 +18,96 @@ parse_atom-parse_chain-requires t c = let s = c.args.toks.now in let p = c.args.
     let here = c.in-Some.ensures.lookup.3.0 in
     rw c.past_token.ensures (omega (arith, c.decreases, ready.inside), ready_inner s p (length old) ready here)
 
-pub parse_atom-returns-in_err-q : goal.parse_atom-returns-in_err-q
-parse_atom-returns-in_err-q t c = let s = c.args.toks.now in let p = c.args.p in let old = c.args.work.now in let ready = c.requires in
+pub parse_atom-returns-in_err-q-in-Opening : goal.parse_atom-returns-in_err-q-in-Opening
+parse_atom-returns-in_err-q-in-Opening t c = let s = c.args.toks.now in let p = c.args.p in let old = c.args.work.now in let ready = c.requires in
     let g = c.in-Some.ensures.lookup.3 in
-    let e = sym (g.1 0) in
     let w = err_from_is_err_and c.from_residual.result c.from_residual.ensures.1 in
-    rw (w.1, w.2) (atom_fails s p old g.0 (e ∙ c.if-kind-eq-OPENING.true) c.parse_chain.new.work _ (rw c.past_token.ensures at c.in_err-q.ensures))
+    rw (w.1, w.2) (atom_fails s p old g.0 (sym (g.1 Citation) ∙ c.in-Opening.is) c.parse_chain.new.work _ (rw c.past_token.ensures at c.in_err-q-in-Opening.ensures))
 
 pub parse_atom-returns-then-q-toks : goal.parse_atom-returns-then-q-toks
 parse_atom-returns-then-q-toks t c = let s = c.args.toks.now in let p = c.args.p in let old = c.args.work.now in let ready = c.requires in
     let g = c.in-Some.ensures.lookup.3 in
-    let e = sym (g.1 0) in
-    atom_open s p old g.0 (e ∙ c.if-kind-eq-OPENING.true) c.parse_chain.new.work _ (rw c.past_token.ensures at c.in_ok-q.ensures) c.if-q-toks.true
+    atom_open s p old g.0 (sym (g.1 Citation) ∙ c.in-Opening.is) c.parse_chain.new.work _ (rw c.past_token.ensures at c.in_ok-q-in-Opening.ensures) c.if-q-toks.true
 
-pub parse_atom-returns-then-kind-eq-OPENING : goal.parse_atom-returns-then-kind-eq-OPENING
-parse_atom-returns-then-kind-eq-OPENING t c = let s = c.args.toks.now in let p = c.args.p in let old = c.args.work.now in let ready = c.requires in
+pub parse_atom-returns-else-q-toks : goal.parse_atom-returns-else-q-toks
+parse_atom-returns-else-q-toks t c = let s = c.args.toks.now in let p = c.args.p in let old = c.args.work.now in let ready = c.requires in
     let g = c.in-Some.ensures.lookup.3 in
-    let e = sym (g.1 0) in
-    rw c.past_token-then-kind-eq-OPENING.ensures (atom_grouped s p old g.0 (e ∙ c.if-kind-eq-OPENING.true) c.parse_chain.new.work _ (rw c.past_token.ensures at c.in_ok-q.ensures) c.if-q-toks.false)
+    rw c.past_token-in-Opening.ensures (atom_grouped s p old g.0 (sym (g.1 Citation) ∙ c.in-Opening.is) c.parse_chain.new.work _ (rw c.past_token.ensures at c.in_ok-q-in-Opening.ensures) c.if-q-toks.false)
 
-pub parse_atom-returns-then-kind-ne-CITATION : goal.parse_atom-returns-then-kind-ne-CITATION
-parse_atom-returns-then-kind-ne-CITATION t c = let s = c.args.toks.now in let p = c.args.p in let old = c.args.work.now in let ready = c.requires in
+pub parse_atom-returns-in_default-kind : goal.parse_atom-returns-in_default-kind
+parse_atom-returns-in_default-kind t c = let s = c.args.toks.now in let p = c.args.p in let old = c.args.work.now in let ready = c.requires in
     let g = c.in-Some.ensures.lookup.3 in
-    let e = sym (g.1 0) in
-    atom_none s p old g.0 (λ k. c.if-kind-eq-OPENING.false (g.1 0 ∙ k)) (λ k. c.if-kind-ne-CITATION.true (g.1 0 ∙ k))
+    let e = g.1 Citation in
+    atom_none s p old g.0 (λ k. c.in_default-kind.not-Opening (e ∙ k)) (λ k. c.in_default-kind.not-Citation (e ∙ k))
 
 pub parse_atom-bounds-work-p : goal.parse_atom-bounds-work-p
 parse_atom-bounds-work-p t c = let s = c.args.toks.now in let p = c.args.p in let old = c.args.work.now in let ready = c.requires in
     let g = c.in-Some.ensures.lookup.3 in
-    let e = sym (g.1 0) in
-    let z = cites_cite s p.at g.0 (e ∙ c.if-kind-ne-CITATION.false) in
-    omega (arith, ready.space, z)
+    omega (arith, ready.space, cites_cite s p.at g.0 (sym (g.1 Citation) ∙ c.in-Citation.is))
 
-pub parse_atom-returns : goal.parse_atom-returns
-parse_atom-returns t c = let s = c.args.toks.now in let p = c.args.p in let old = c.args.work.now in let ready = c.requires in
+pub parse_atom-returns-in-Citation : goal.parse_atom-returns-in-Citation
+parse_atom-returns-in-Citation t c = let s = c.args.toks.now in let p = c.args.p in let old = c.args.work.now in let ready = c.requires in
     let g = c.in-Some.ensures.lookup.3 in
-    let e = sym (g.1 0) in
-    let k = e ∙ c.if-kind-ne-CITATION.false in
-    let z = cites_cite s p.at g.0 k in
-    atom_cited s p old g.0 k (omega (arith, ready.space, z)) _ c.make_row.ensures
+    let k = sym (g.1 Citation) ∙ c.in-Citation.is in
+    atom_cited s p old g.0 k (omega (arith, ready.space, cites_cite s p.at g.0 k)) _ c.make_row.ensures
 
-pub parse_chain-returns-then-op-eq0 : goal.parse_chain-returns-then-op-eq0
-parse_chain-returns-then-op-eq0 t c = let s = c.args.toks.now in let p = c.args.p in let old = c.args.work.now in let ready = c.requires in
-    chain_alone s p old c.parse_juxtaposition.new.work _ c.in_ok-lead.ensures (sym c.if-op-eq0.true ∙ c.op_at-op.ensures)
+pub parse_chain-returns-in_default : goal.parse_chain-returns-in_default
+parse_chain-returns-in_default t c = let s = c.args.toks.now in let p = c.args.p in let old = c.args.work.now in let ready = c.requires in
+    chain_alone s p old c.parse_juxtaposition.new.work _ c.in_ok-lead.ensures c.in_default.ensures
 
 pub parse_chain-led-q-requires : goal.parse_chain-led-q-requires
 parse_chain-led-q-requires t c = let s = c.args.toks.now in let p = c.args.p in let old = c.args.work.now in let ready = c.requires in
     let h = c.in_ok-lead.ensures in
     (omega (arith, tree_grew s p c.parse_juxtaposition.new.work c.in_ok-lead.lead h.0 h.2), omega (arith, h.2.within.inside, ready.short))
 
-pub parse_chain-loop-op-init : goal.parse_chain-loop-op-init
-parse_chain-loop-op-init t c = let s = c.args.toks.now in let p = c.args.p in let old = c.args.work.now in let ready = c.requires in
-    let st = chain_starts s p old c.parse_juxtaposition.new.work _ c.in_ok-lead.ensures c.op_at-op.result c.op_at-op.ensures c.if-op-eq0.false in
-    (before_turn s p c.parse_juxtaposition.new.work c.op_at-op.result _ (rw c.led-q.ensures st.0) c.if-op-eq0.false, refl, refl)
+pub parse_chain-loop-next-init : goal.parse_chain-loop-next-init
+parse_chain-loop-next-init t c = let s = c.args.toks.now in let p = c.args.p in let old = c.args.work.now in let ready = c.requires in
+    let st = chain_starts s p old c.parse_juxtaposition.new.work _ c.in_ok-lead.ensures c.in-Some.op c.in-Some.ensures _ c.led-q.ensures in
+    (st.0, refl, refl)
+
+pub parse_chain-add_node-requires : goal.parse_chain-add_node-requires
+parse_chain-add_node-requires t c = let s = c.args.toks.now in let p = c.args.p in let old = c.args.work.now in let ready = c.requires in
+    let q = c.loop-next.q in let inv = c.loop-next.invariant in
+    let go = chain_goes s p c.loop-next.work q inv.0 c.parse_juxtaposition-in-loop-next.new.work _ c.in_ok-next.ensures in
+    let n = c.in_ok-next.next in let room = row_left s p (length old) n.at n.rows n.cites (q.kids + 1) ready go.0.within go.0.some in
+    (go.0.within.above, omega (arith, room.0, inv.2), room.1, room.2)
+
+pub parse_chain-returns-in_default-op_at : goal.parse_chain-returns-in_default-op_at
+parse_chain-returns-in_default-op_at t c = let s = c.args.toks.now in let p = c.args.p in let old = c.args.work.now in let ready = c.requires in
+    let q = c.loop-next.q in let inv = c.loop-next.invariant in
+    let go = chain_goes s p c.loop-next.work q inv.0 c.parse_juxtaposition-in-loop-next.new.work _ c.in_ok-next.ensures in
+    let n = c.in_ok-next.next in let room = row_left s p (length old) n.at n.rows n.cites (q.kids + 1) ready go.0.within go.0.some in
+    let fits : n.rows < length c.parse_juxtaposition-in-loop-next.new.work = omega (arith, room.0, inv.2) in
+    let chain : Pos = record { at = n.at; rows = n.rows; cites = n.cites; kind = q.kind; kids = q.kids + 1 } in
+    let st = chain_starts s p old c.parse_juxtaposition.new.work _ c.in_ok-lead.ensures c.in-Some.op c.in-Some.ensures _ c.led-q.ensures in
+    rw (c.add_node.ensures.value, c.add_node.ensures.work_after) (chain_ends s p _ chain go.0 fits old c.in_default-op_at.ensures (go.1 ∙ inv.1 ∙ st.1))
 
 pub parse_chain-grow-q-requires : goal.parse_chain-grow-q-requires
 parse_chain-grow-q-requires t c = let s = c.args.toks.now in let p = c.args.p in let old = c.args.work.now in let ready = c.requires in
-    let work = c.loop-op.work in let q = c.loop-op.q in let op = c.loop-op.op in let inv = c.loop-op.invariant in
-    let b = turn_before s p work op q inv.0 c.loop-op-test.true in
-    let go = chain_goes s p work q b c.parse_juxtaposition-in-loop-op.new.work _ c.in_ok-next.ensures in
+    let q = c.loop-next.q in let inv = c.loop-next.invariant in
+    let go = chain_goes s p c.loop-next.work q inv.0 c.parse_juxtaposition-in-loop-next.new.work _ c.in_ok-next.ensures in
     let n = c.in_ok-next.next in let room = row_left s p (length old) n.at n.rows n.cites (q.kids + 1) ready go.0.within go.0.some in
-    let kept2 : length c.parse_juxtaposition-in-loop-op.new.work ≡ length old = omega (arith, inv.2) in
-    (go.0.within.above, omega (arith, room.0, kept2), room.1, room.2, omega (arith, go.0.within.inside, ready.short), kind_pos s p c.parse_juxtaposition-in-loop-op.new.work (record { at = n.at; rows = n.rows; cites = n.cites; kind = q.kind; kids = q.kids + 1 }) go.0 (omega (arith, room.0, kept2)))
+    (go.0.within.above, omega (arith, room.0, inv.2), room.1, room.2, omega (arith, go.0.within.inside, ready.short))
 
-pub parse_chain-loop-op-preserved : goal.parse_chain-loop-op-preserved
-parse_chain-loop-op-preserved t c = let s = c.args.toks.now in let p = c.args.p in let old = c.args.work.now in let ready = c.requires in
-    let work = c.loop-op.work in let q = c.loop-op.q in let op = c.loop-op.op in let inv = c.loop-op.invariant in
-    let b = turn_before s p work op q inv.0 c.loop-op-test.true in
-    let go = chain_goes s p work q b c.parse_juxtaposition-in-loop-op.new.work _ c.in_ok-next.ensures in
+pub parse_chain-loop-next-smaller : goal.parse_chain-loop-next-smaller
+parse_chain-loop-next-smaller t c = let s = c.args.toks.now in let p = c.args.p in let old = c.args.work.now in let ready = c.requires in
+    let q = c.loop-next.q in let inv = c.loop-next.invariant in
+    let go = chain_goes s p c.loop-next.work q inv.0 c.parse_juxtaposition-in-loop-next.new.work _ c.in_ok-next.ensures in
     let n = c.in_ok-next.next in let room = row_left s p (length old) n.at n.rows n.cites (q.kids + 1) ready go.0.within go.0.some in
-    let kept2 : length c.parse_juxtaposition-in-loop-op.new.work ≡ length old = omega (arith, inv.2) in
-    let fits : n.rows < length c.parse_juxtaposition-in-loop-op.new.work = omega (arith, room.0, kept2) in
-    (rw (c.grow-q.ensures.value, c.grow-q.ensures.work_after) (chain_turns s p c.parse_juxtaposition-in-loop-op.new.work (record { at = n.at; rows = n.rows; cites = n.cites; kind = q.kind; kids = q.kids + 1 }) go.0 fits c.op_at-op-in-loop-op.result c.op_at-op-in-loop-op.ensures), rw c.grow-q.ensures.work_after (chain_front s p c.parse_juxtaposition-in-loop-op.new.work (record { at = n.at; rows = n.rows; cites = n.cites; kind = q.kind; kids = q.kids + 1 }) go.0 fits c.op_at-op-in-loop-op.result) ∙ go.1 ∙ inv.1, omega (arith, inv.2))
+    let fits : n.rows < length c.parse_juxtaposition-in-loop-next.new.work = omega (arith, room.0, inv.2) in
+    let chain : Pos = record { at = n.at; rows = n.rows; cites = n.cites; kind = q.kind; kids = q.kids + 1 } in
+    let grown = chain_grows s p _ chain go.0 fits c.in-Some-op_at.op c.in-Some-op_at.ensures _ _ c.grow-q.ensures in
+    omega (arith, grown.0.within.inside, grown.2, c.in_ok-next.ensures.2.within.later)
+
+pub parse_chain-loop-next-preserved : goal.parse_chain-loop-next-preserved
+parse_chain-loop-next-preserved t c = let s = c.args.toks.now in let p = c.args.p in let old = c.args.work.now in let ready = c.requires in
+    let q = c.loop-next.q in let inv = c.loop-next.invariant in
+    let go = chain_goes s p c.loop-next.work q inv.0 c.parse_juxtaposition-in-loop-next.new.work _ c.in_ok-next.ensures in
+    let n = c.in_ok-next.next in let room = row_left s p (length old) n.at n.rows n.cites (q.kids + 1) ready go.0.within go.0.some in
+    let fits : n.rows < length c.parse_juxtaposition-in-loop-next.new.work = omega (arith, room.0, inv.2) in
+    let chain : Pos = record { at = n.at; rows = n.rows; cites = n.cites; kind = q.kind; kids = q.kids + 1 } in
+    let grown = chain_grows s p _ chain go.0 fits c.in-Some-op_at.op c.in-Some-op_at.ensures _ _ c.grow-q.ensures in
+    (grown.0, grown.1 ∙ go.1 ∙ inv.1, omega (arith, inv.2))
 
 pub parse_juxtaposition-loop-work-init : goal.parse_juxtaposition-loop-work-init
 parse_juxtaposition-loop-work-init t c = let s = c.args.toks.now in let p = c.args.p in let old = c.args.work.now in let ready = c.requires in

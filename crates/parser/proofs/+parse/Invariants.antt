@@ -1,6 +1,6 @@
 use mathlib.Core.Path.{◌≡◌}
 use lib.ListN.{length}
-use Rattle.parser.specs.States.{Running, Turn, Front}
+use Rattle.parser.specs.States.{Running, Before, Front}
 use Prim.Native.Nat.{◌+◌, ◌*◌, ◌-◌}
 use Rattle.parser.proofs.+parse.Given as goal
 
@@ -13,11 +13,11 @@ decreases-parse_chain l = 4 * (length l.toks.now - l.p.at) + 2
 abbrev pub decreases-parse_juxtaposition : goal.decreases-parse_juxtaposition
 decreases-parse_juxtaposition l = 4 * (length l.toks.now - l.p.at) + 1
 
-abbrev pub invariant-parse_chain-loop-op : goal.invariant-parse_chain-loop-op
-invariant-parse_chain-loop-op l = Turn l.toks l.p l.work l.op l.q × Front l.p.rows l.initial.work l.work × (length l.work ≡ length l.initial.work)
+abbrev pub invariant-parse_chain-loop-next : goal.invariant-parse_chain-loop-next
+invariant-parse_chain-loop-next l = Before l.toks l.p l.work l.q × Front l.p.rows l.initial.work l.work × (length l.work ≡ length l.initial.work)
 
-abbrev pub decreases-parse_chain-loop-op : goal.decreases-parse_chain-loop-op
-decreases-parse_chain-loop-op l = length l.toks - l.q.at
+abbrev pub decreases-parse_chain-loop-next : goal.decreases-parse_chain-loop-next
+decreases-parse_chain-loop-next l = length l.toks - l.q.at
 
 abbrev pub invariant-parse_juxtaposition-loop-work : goal.invariant-parse_juxtaposition-loop-work
 invariant-parse_juxtaposition-loop-work l = Running l.toks l.p l.work l.q l.kids × Front l.p.rows l.initial.work l.work × (length l.work ≡ length l.initial.work)

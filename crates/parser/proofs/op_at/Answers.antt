@@ -1,16 +1,21 @@
-use native.Mathlib.Omega.{arith}
-use mathlib.Core.Path.{◌∙◌}
-use Rattle.parser.proofs.Ahead.{op_below, op_above, op_between, op_end}
+use mathlib.Core.Path.{sym, ◌∙◌}
+use Rattle.lexer.specs.declared.TokenKind.TheVariants.{Citation, And, Or, Xor}
+use Rattle.parser.proofs.Ahead.{op_end, op_known, op_none}
 use Rattle.parser.proofs.op_at.Goals as goal
 
-pub returns-in-Some : goal.returns-in-Some
-returns-in-Some c = let g = c.in-Some.ensures.lookup.3 in let e = g.1 0 in e ∙ op_between c.args.toks.now c.args.at g.0 (omega arith) (omega arith)
+pub returns-in_err-get : goal.returns-in_err-get
+returns-in_err-get c = c.from_residual.ensures ∙ op_end c.args.toks.now c.args.at c.in_err-get.ensures.lookup.3
+
+pub returns-in-And : goal.returns-in-And
+returns-in-And c = let g = c.in_ok-get.ensures.lookup.3 in op_known c.args.toks.now c.args.at And g.0 (sym (g.1 Citation) ∙ c.in-And.is)
+
+pub returns-in-Or : goal.returns-in-Or
+returns-in-Or c = let g = c.in_ok-get.ensures.lookup.3 in op_known c.args.toks.now c.args.at Or g.0 (sym (g.1 Citation) ∙ c.in-Or.is)
+
+pub returns-in-Xor : goal.returns-in-Xor
+returns-in-Xor c = let g = c.in_ok-get.ensures.lookup.3 in op_known c.args.toks.now c.args.at Xor g.0 (sym (g.1 Citation) ∙ c.in-Xor.is)
 
 pub returns-in_default : goal.returns-in_default
-returns-in_default c = let g = c.in-Some.ensures.lookup.3 in let e = g.1 0 in op_above c.args.toks.now c.args.at g.0 (omega arith)
-
-pub returns-in_default-2 : goal.returns-in_default-2
-returns-in_default-2 c = let g = c.in-Some.ensures.lookup.3 in let e = g.1 0 in op_below c.args.toks.now c.args.at g.0 (omega arith)
-
-pub returns-in_default-3 : goal.returns-in_default-3
-returns-in_default-3 c = let g = rw c.in_default.is at c.get.ensures.lookup in op_end c.args.toks.now c.args.at g.3
+returns-in_default c = let g = c.in_ok-get.ensures.lookup.3 in
+    let e = g.1 Citation in
+    op_none c.args.toks.now c.args.at g.0 (λ k. c.in_default.not-And (e ∙ k)) (λ k. c.in_default.not-Or (e ∙ k)) (λ k. c.in_default.not-Xor (e ∙ k))

@@ -2,8 +2,11 @@ use mathlib.Core.Path.{◌∙◌}
 use Rattle.presence.proofs.Answers.{few_rows, fit-long, whole-presence}
 use Rattle.presence.proofs.eval_marked.Goals as goal
 
-pub eval_row-requires : goal.eval_row-requires
-eval_row-requires c = let h = c.requires.0 in (h, (few_rows _ h).1, fit-long _ _ h c.requires.1, c.mark_choices.ensures)
+pub invariant_of-evaluation : goal.invariant_of-evaluation
+invariant_of-evaluation c = record { answered = fit-long _ _ c.args.tree.tested c.requires.0; ready = c.mark_choices.ensures }
+
+pub subtree-requires : goal.subtree-requires
+subtree-requires c = (few_rows _ c.args.tree.tested).1
 
 pub returns : goal.returns
-returns c = c.eval_row.ensures ∙ whole-presence _ c.args.answers.now c.requires.0
+returns c = c.subtree.ensures ∙ whole-presence _ c.args.answers.now c.args.tree.tested

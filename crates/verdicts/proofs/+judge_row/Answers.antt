@@ -1,40 +1,37 @@
-use Prim.Native.Nat.{◌+◌, ◌-◌}
-use mathlib.Core.Path.{◌≡◌, refl, sym, ◌∙◌}
+use mathlib.Core.Path.{refl, sym, ◌∙◌}
 use native.Mathlib.Omega.{arith}
+use denote.Enum.Bare.{same_true, same_false}
+use Rattle.grammar.specs.contracts.NodeKind.{the_type as kinds}
 use Rattle.verdicts.proofs.Laws as laws
 use Rattle.verdicts.proofs.+judge_row.Goals as goal
 
-pub kind_at-k-requires : goal.kind_at-k-requires
-kind_at-k-requires t c = (c.requires.0, c.requires.1)
-
-pub number_at-m-requires : goal.number_at-m-requires
-number_at-m-requires t c = (c.requires.0, c.requires.1)
-
 pub judge_cited-requires : goal.judge_cited-requires
-judge_cited-requires t c = let b = c.requires in let l = laws.leaf_asked c.args.value.now c.args.tree.now b.0 _ _ _ _ b.1 (sym c.kind_at-k.ensures.0 ∙ c.if-k-eq0.true) c.number_at-m.ensures.0 b.2 in (b.0, l.0, c.number_at-m.ensures.1, l.1)
+judge_cited-requires t c = let b = c.requires in let h = c.args.tree.tested in let l = laws.leaf_asked c.args.value.now c.args.tree.bytes.now h _ _ _ _ b.0 (sym c.kind_at-kind.ensures ∙ same_true kinds tt _ _ (sym c.eq.ensures ∙ c.if-eq.true)) c.number_at.ensures.0 b.1 in (l.0, c.number_at.ensures.1, l.1)
 
-pub returns-then-k-eq0 : goal.returns-then-k-eq0
-returns-then-k-eq0 t c = let b = c.requires in laws.leaf_judged c.args.value.now c.args.tree.now b.0 b.1 (sym c.kind_at-k.ensures.0 ∙ c.if-k-eq0.true) c.number_at-m.ensures.0 c.judge_cited.ensures
+pub returns-then-eq : goal.returns-then-eq
+returns-then-eq t c = let b = c.requires in let h = c.args.tree.tested in laws.leaf_judged c.args.value.now c.args.tree.bytes.now h b.0 (sym c.kind_at-kind.ensures ∙ same_true kinds tt _ _ (sym c.eq.ensures ∙ c.if-eq.true)) c.number_at.ensures.0 c.judge_cited.ensures
 
-pub overflow_add-child : goal.overflow_add-child
-overflow_add-child t c = let b = c.requires in omega (arith, b.1, laws.few_rows c.args.value.now c.args.tree.now b.0)
-
-pub loop-init : goal.loop-init
-loop-init t c = let b = c.requires in laws.state_starts c.args.value.now c.args.tree.now b.0 _ _ _ _ _ b.1 (λ q. c.if-k-eq0.false (c.kind_at-k.ensures.0 ∙ q)) (omega (arith, c.number_at-m.ensures.0)) c.new-tally.ensures
-
-pub size_at-child-requires : goal.size_at-child-requires
-size_at-child-requires t c = let b = c.requires in (b.0, (laws.state_next c.args.value.now c.args.tree.now b.0 c.loop.invariant (omega arith)).inside)
+pub loop-child-init : goal.loop-child-init
+loop-child-init t c =
+    let b = c.requires in
+    let h = c.args.tree.tested in
+    let it = c.children-child-items.ensures in
+    rw (c.into_iter-child-iterator.ensures.into_iter_gives, it.1) (it.0, laws.state_starts c.args.value.now c.args.tree.bytes.now h _ _ _ _ _ b.0 (λ q. same_false kinds _ _ (sym c.eq.ensures ∙ c.if-eq.false) (c.kind_at-kind.ensures ∙ q)) it.2 c.new-tally.ensures)
 
 pub judge_row-here-requires : goal.judge_row-here-requires
-judge_row-here-requires t c = let b = c.requires in let n = laws.state_next c.args.value.now c.args.tree.now b.0 c.loop.invariant (omega arith) in (omega (arith, c.decreases, n.shrinks), (b.0, n.inside, laws.state_room c.args.value.now c.args.tree.now b.0 c.loop.invariant (omega arith) b.2 (λ q. c.if-k-eq0.false (c.kind_at-k.ensures.0 ∙ q))))
+judge_row-here-requires t c =
+    let b = c.requires in
+    let h = c.args.tree.tested in
+    let g = c.in-Some.ensures.steps in
+    let s = laws.state_from c.loop-child.invariant.1 g.0 in
+    let n = laws.state_next c.args.value.now c.args.tree.bytes.now h s g.1 in
+    (omega (arith, c.decreases, n.shrinks), (n.inside, laws.state_room c.args.value.now c.args.tree.bytes.now h s g.1 b.1 (λ q. same_false kinds _ _ (sym c.eq.ensures ∙ c.if-eq.false) (c.kind_at-kind.ensures ∙ q))))
 
-pub overflow_add-child-in-loop : goal.overflow_add-child-in-loop
-overflow_add-child-in-loop t c = let b = c.requires in let n = laws.state_next c.args.value.now c.args.tree.now b.0 c.loop.invariant (omega arith) in omega (arith, n.walk.within, c.size_at-child.ensures.0, laws.few_rows c.args.value.now c.args.tree.now b.0)
-
-pub loop-preserved : goal.loop-preserved
-loop-preserved t c =
-    let less : c.number_at-m.result - c.loop.counter - 1 ≡ c.number_at-m.result - (c.loop.counter + 1) = omega arith in
-    rw (← less) (laws.state_again c.args.value.now c.args.tree.now c.requires.0 c.loop.invariant (omega arith) _ _ c.size_at-child.ensures.0 c.judge_row-here.ensures c.judge_row-here.auto.list c.add-tally.ensures)
+pub loop-child-preserved : goal.loop-child-preserved
+loop-child-preserved t c =
+    let i = c.loop-child.invariant in
+    let g = c.in-Some.ensures.steps in
+    (g.2 ∙ i.0, rw (g.4, g.3, i.0) (laws.state_again c.args.value.now c.args.tree.bytes.now c.args.tree.tested (laws.state_from i.1 g.0) g.1 _ c.judge_row-here.ensures c.judge_row-here.auto.list c.add-tally.ensures))
 
 pub returns : goal.returns
-returns t c = laws.state_ends c.args.value.now c.args.tree.now c.requires.0 c.loop.invariant (omega arith) _ c.kind_at-k.ensures.0 c.if-k-eq0.false _ c.node_truth.ensures refl
+returns t c = laws.state_ends c.args.value.now c.args.tree.bytes.now c.args.tree.tested c.loop-child.invariant.1 (omega (arith, c.in-None.ensures.steps)) _ c.kind_at-kind.ensures (same_false kinds _ _ (sym c.eq.ensures ∙ c.if-eq.false)) _ c.node_truth.ensures refl

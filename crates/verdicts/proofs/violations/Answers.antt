@@ -1,5 +1,4 @@
 use Prim.Native.Nat.{◌≤◌}
-use mathlib.Core.Path.{sym, ◌∙◌}
 use native.Mathlib.Omega.{arith}
 use lib.ListN.{length}
 use lib.Seq.{length-take-le}
@@ -10,31 +9,32 @@ use Rattle.tree.proofs.Walks.{root}
 use Rattle.verdicts.proofs.Laws.{said_other, list_room, violations-no-tree, violations_turned, violations-not, violations_short, violations_done}
 use Rattle.verdicts.proofs.violations.Goals as goal
 
-pub returns-then-not-is_tree : goal.returns-then-not-is_tree
-returns-then-not-is_tree c = violations-no-tree _ _ _ (sym c.is_tree.ensures ∙ c.if-not-is_tree.true)
+pub returns-in_err-tree : goal.returns-in_err-tree
+returns-in_err-tree c = let p = err_from_is_err_and c.from_residual.result c.from_residual.ensures.1 in
+    let e = c.in_err-tree.ensures in rw (p.1, p.2, e.0) (violations-no-tree _ _ _ e.1)
 
 pub returns-in_err-admit : goal.returns-in_err-admit
-returns-in_err-admit c = let p = err_from_is_err_and c.from_residual.result c.from_residual.ensures.1 in
-    let d = violations_turned _ _ (sym c.is_tree.ensures ∙ c.if-not-is_tree.false) c.args.out.now _ (λ r. admitted_refused value_limit c.args.value.now c.admit.ensures c.in_err-admit.was r) in
-    record { result_value = rw (p.1, p.2) d.result_value; out_after = d.out_after }
+returns-in_err-admit c = let p = err_from_is_err_and c.from_residual-in_err-admit.result c.from_residual-in_err-admit.ensures.1 in
+    let d = violations_turned _ _ c.in_ok-tree.tree.tested c.args.out.now _ (λ r. admitted_refused value_limit c.args.value.now c.admit.ensures c.in_err-admit.was r) in
+    rw (← c.in_ok-tree.ensures) record { result_value = rw (p.1, p.2) d.result_value; out_after = d.out_after }
 
 pub judge_row-judged-requires : goal.judge_row-judged-requires
-judge_row-judged-requires c = let t = sym c.is_tree.ensures ∙ c.if-not-is_tree.false in (t, (root _ t).some, omega (arith, list_room c.args.value.now c.args.tree.now t))
+judge_row-judged-requires c = let t = c.in_ok-tree.tree.tested in ((root _ t).some, omega (arith, list_room c.args.value.now c.in_ok-tree.tree.bytes.now t))
 
 pub returns-then-ne : goal.returns-then-ne
-returns-then-ne c = violations-not c.args.tree.now c.args.value.now (sym c.is_tree.ensures ∙ c.if-not-is_tree.false) _ _ (λ r. admitted_fine value_limit c.args.value.now c.admit.ensures c.in_ok-admit.was r) c.judge_row-judged.ensures (said_other _ c.ne.ensures c.if-ne.true)
+returns-then-ne c = rw (← c.in_ok-tree.ensures) (violations-not c.in_ok-tree.tree.bytes.now c.args.value.now c.in_ok-tree.tree.tested _ _ (λ r. admitted_fine value_limit c.args.value.now c.admit.ensures c.in_ok-admit.was r) c.judge_row-judged.ensures (said_other _ c.ne.ensures c.if-ne.true))
 
 pub returns-then-out-judged : goal.returns-then-out-judged
-returns-then-out-judged c = violations_short c.args.tree.now c.args.value.now (sym c.is_tree.ensures ∙ c.if-not-is_tree.false) _ _ (λ r. admitted_fine value_limit c.args.value.now c.admit.ensures c.in_ok-admit.was r) c.judge_row-judged.ensures (said_other _ c.ne.ensures c.if-ne.false) (omega arith)
+returns-then-out-judged c = rw (← c.in_ok-tree.ensures) (violations_short c.in_ok-tree.tree.bytes.now c.args.value.now c.in_ok-tree.tree.tested _ _ (λ r. admitted_fine value_limit c.args.value.now c.admit.ensures c.in_ok-admit.was r) c.judge_row-judged.ensures (said_other _ c.ne.ensures c.if-ne.false) (omega arith))
 
 pub slice_bounds-list-end : goal.slice_bounds-list-end
-slice_bounds-list-end c = omega (arith, list_room c.args.value.now c.args.tree.now (sym c.is_tree.ensures ∙ c.if-not-is_tree.false), c.judge_row-judged.ensures.written.ends)
+slice_bounds-list-end c = omega (arith, list_room c.args.value.now c.in_ok-tree.tree.bytes.now c.in_ok-tree.tree.tested, c.judge_row-judged.ensures.written.ends)
 
 pub slice_bounds-put_text-end : goal.slice_bounds-put_text-end
-slice_bounds-put_text-end c = let p : c.judge_row-judged.result.at ≤ length c.judge_row-judged.new.list = omega (arith, list_room c.args.value.now c.args.tree.now (sym c.is_tree.ensures ∙ c.if-not-is_tree.false), c.judge_row-judged.ensures.written.ends, c.judge_row-judged.auto.list) in omega (arith, length-take-le c.judge_row-judged.result.at c.judge_row-judged.new.list p)
+slice_bounds-put_text-end c = let p : c.judge_row-judged.result.at ≤ length c.judge_row-judged.new.list = omega (arith, list_room c.args.value.now c.in_ok-tree.tree.bytes.now c.in_ok-tree.tree.tested, c.judge_row-judged.ensures.written.ends, c.judge_row-judged.auto.list) in omega (arith, length-take-le c.judge_row-judged.result.at c.judge_row-judged.new.list p)
 
 pub put_text-requires : goal.put_text-requires
-put_text-requires c = let p : c.judge_row-judged.result.at ≤ length c.judge_row-judged.new.list = omega (arith, list_room c.args.value.now c.args.tree.now (sym c.is_tree.ensures ∙ c.if-not-is_tree.false), c.judge_row-judged.ensures.written.ends, c.judge_row-judged.auto.list) in omega (arith, length-take-le c.judge_row-judged.result.at c.judge_row-judged.new.list p)
+put_text-requires c = let p : c.judge_row-judged.result.at ≤ length c.judge_row-judged.new.list = omega (arith, list_room c.args.value.now c.in_ok-tree.tree.bytes.now c.in_ok-tree.tree.tested, c.judge_row-judged.ensures.written.ends, c.judge_row-judged.auto.list) in omega (arith, length-take-le c.judge_row-judged.result.at c.judge_row-judged.new.list p)
 
 pub returns : goal.returns
-returns c = violations_done c.args.tree.now c.args.value.now (sym c.is_tree.ensures ∙ c.if-not-is_tree.false) _ _ (λ r. admitted_fine value_limit c.args.value.now c.admit.ensures c.in_ok-admit.was r) c.judge_row-judged.ensures (said_other _ c.ne.ensures c.if-ne.false) (omega arith) c.put_text.ensures
+returns c = rw (← c.in_ok-tree.ensures) (violations_done c.in_ok-tree.tree.bytes.now c.args.value.now c.in_ok-tree.tree.tested _ _ (λ r. admitted_fine value_limit c.args.value.now c.admit.ensures c.in_ok-admit.was r) c.judge_row-judged.ensures (said_other _ c.ne.ensures c.if-ne.false) (omega arith) c.put_text.ensures)
