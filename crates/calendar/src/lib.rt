@@ -1,5 +1,5 @@
 // The proleptic Gregorian calendar: dates and times that exist, last Sundays, and the summer time of German legal time. A date's
-// parts are parameters of their own, as in the definitions: no function takes all of them alone.
+// parts are parameters of their own, as in the definitions, where a struct would be taken apart.
 
 #![tactic(auto)]
 

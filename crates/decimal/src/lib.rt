@@ -109,7 +109,8 @@ fn by_sign(order: Ordering, minus: bool, below: bool, zero: bool) -> Ordering
     }
 }
 
-// The order of a number against the integer of this size, below zero or not; None of what is no number.
+// The order of a number against the integer of this size, below zero or not; None of what is no number. Sign and size are two
+// arguments, as in the definition `against`.
 pub fn compare(s: &[u8], below: bool, size: u32) -> Option<Ordering>
     ensures { result ≡ against s.now below size }
 {

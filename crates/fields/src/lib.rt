@@ -15,7 +15,7 @@ pub fn get16(s: &[u8], at: usize) -> usize
 }
 
 // One byte; the answer is the place after it, here and below. Buffer and place stay two parameters, here and in the crates
-// above: as one struct they were tried in printer, and printing the table took 1.7 times as long.
+// above: as one struct they were tried in printer alone, and printing the table took 1.7 times as long.
 pub fn put_byte(out: &mut [u8], at: usize, b: u8) -> usize
     requires { at + 1 ≤ length out.old }
     ensures { Appended (b ∷ []) at out.old out.new result }

@@ -256,7 +256,7 @@ fn phone_shape(value: &[u8]) -> FormatVerdict
     )
 }
 
-// A day boundary of one of the two kinds of day.
+// A day boundary of one of the two kinds of day: two texts, as each row of `judge` spells them.
 fn day_boundary(value: &[u8], summer: &[u8], winter: &[u8]) -> FormatVerdict
     ensures { result ≡ judged (boundary_at summer.now winter.now) value.now }
 {
@@ -279,7 +279,7 @@ fn either_boundary(
     )
 }
 
-// Times and day boundaries. The match of `judge` is cut in four, so that a function stays short.
+// Times and day boundaries. The match of `judge` is cut in four, a family of rules each.
 fn judge_times(id: u32, value: &[u8]) -> FormatVerdict
     ensures { result ≡ judged_in time_rules id value.now }
 {

@@ -33,7 +33,7 @@ pub enum TokenKind {
     Closing,
 }
 
-// The kind for which a byte stands: a citation and the operators have the numbers of their node rows, an opening parenthesis has 5,
+// For callers who hold bytes: the kind for which one stands. A citation and the operators have the numbers of their node rows, an opening parenthesis has 5,
 // and what is no kind closes.
 impl From<u8> for TokenKind {
     ghost from_gives = { λ number kind. kind ≡ numbered number };
@@ -311,7 +311,8 @@ fn store(places: &mut [Place], m: usize, place: Place)
     }
 }
 
-// One token, or white space.
+// One token, or white space. Kinds and places are parameters of their own: a struct around lent memory was tried in printer, and was
+// slower.
 fn read_token(
     text: Text,
     kinds: &mut [TokenKind],

@@ -116,7 +116,7 @@ fn refused_line(why: Refusal, out: &mut [u8]) -> usize
 }
 
 // The lines of a report: each says another definition of another value, so they stay functions of their own; one law serves
-// all. Kind, tree and value are three parameters, since these functions take different parts of them; and a buffer may be longer
+// all, and one function of the name would take what is said as a closure over the same buffer. Kind, tree and value are three parameters, since these functions take different parts of them; and a buffer may be longer
 // than a report, so its length is a clause and no array's.
 fn status_line(kind: StatusKind, out: &mut [u8], at: usize) -> usize
     requires { at + longest_status_line ≤ length out.old }

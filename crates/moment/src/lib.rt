@@ -79,7 +79,8 @@ pub fn moment_of(value: &[u8]) -> Option<Moment>
     )
 }
 
-// A day begins: the one text stands from byte 8 in summer time, the other otherwise.
+// A day begins: the one text stands from byte 8 in summer time, the other otherwise. A date's parts and the two texts are
+// parameters of their own here, as in the definitions.
 #[tactic(auto, unfolding(crate::specs::Moments::day_boundary))]
 pub fn day_boundary(value: &[u8], summer: &[u8], winter: &[u8]) -> bool
     ensures { result ≡ day_boundary summer.now winter.now value.now }

@@ -172,7 +172,7 @@ fn parse_juxtaposition(toks: &[TokenKind], work: &mut [Row], p: Pos) -> Result<P
 {
     let mut q = parse_atom(toks, work, p)?;
     let mut kids = 1;
-    // A step is as wide as an operand.
+    // No `for`: a step is as wide as an operand, which it reads.
     while operand_at(toks, q.at) {
         q = parse_atom(toks, work, q)?;
         kids += 1;
@@ -199,7 +199,7 @@ fn parse_chain(toks: &[TokenKind], work: &mut [Row], p: Pos) -> Result<Pos, Refu
         return Ok(lead);
     };
     let mut q = led(lead, op);
-    // A step is as wide as an operand and what follows it.
+    // No `for`: a step is as wide as an operand and what follows it, which it reads.
     loop {
         let next = parse_juxtaposition(toks, work, q)?;
         let chain = Pos {

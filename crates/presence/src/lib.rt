@@ -171,7 +171,7 @@ pub fn answers_fit(tree: Tree, answers: &[u8]) -> bool
     answers.len() == tree.cite_count() && all_fit(answers)
 }
 
-// The answer of a citation.
+// The answer of a citation. No `TryFrom`: an answer over 3 is presence's own refusal.
 fn answer_at(answers: &[u8], number: usize) -> Result<Truth, Refusal>
     requires { number < length answers.now }
     ensures { result ≡ oracle_of answers.now number }

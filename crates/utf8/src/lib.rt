@@ -12,7 +12,8 @@ use refusal::Refusal;
 // A row of table 3-7: how many bytes follow, the second byte's range, the first byte's part of the code.
 type Lead = (usize, u8, u8, u32);
 
-// The character at a place. Every caller tells the three apart, so they stand side by side and not as an `Option` of a `Result`.
+// The character at a place. `scan` and formats' `all_unoc_upper` tell a bad byte from the end: an `Option` of a `Result` would nest
+// for them, and the others match `Char` alone.
 #[derive(Clone, Copy)]
 pub enum Step {
     Char { code: u32, width: usize },

@@ -51,7 +51,8 @@ fn cited_truth(text: &[u8], value: &[u8]) -> Truth
     }
 }
 
-// The truth of the citation `n`, and its number in the list if it is violated.
+// The truth of the citation `n`, and its number in the list if it is violated. List and place are parameters of their own, as buffer
+// and place in crate fields.
 fn judge_cited(tree: Tree, value: &[u8], n: usize, list: &mut [u8], at: usize) -> Judged
     requires { (n < cites tree.bytes.now) × (n < 65536) × (at + length (cited_numbers value.now n (text_at tree.bytes.now n)) ≤ length list.old) }
     ensures { CitedJudged value.now n (text_at tree.entry.bytes.now n) at list.old list.new result }
