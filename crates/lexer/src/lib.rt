@@ -143,7 +143,7 @@ fn run_while<F: Fn(u32) -> bool>(text: &[u8], at: usize, on: F) -> usize
     requires { F.IsAlwaysCallable on }
     ensures { (white : Bool) → GoesOn white (F.post on) → result ≡ run_end white text.now at }
 {
-    // No `for`: a step is as wide as its character, and an iterator of our own would be this step again, with this loop's invariant as its law.
+    // a loop: each step is as wide as its character
     let mut i = at;
     while let Step::Char { code, width } = utf8::step_at(text, i) {
         if !on(code) {

@@ -55,7 +55,7 @@ pub fn same_bytes(s: &[u8], text: &[u8]) -> bool
     s == text
 }
 
-// The first place of the text; the length if it is nowhere: a place where `head` and `tail` can cut, so no `Option`.
+// The first place of the text; the length if it is nowhere, a place where `head` and `tail` can cut.
 pub fn find(s: &[u8], text: &[u8]) -> usize
     ensures { result ≡ place text.now s.now }
 {
