@@ -51,12 +51,15 @@ fn stated(kind: StatusKind, length: Option<usize>) -> u64
 }
 
 // An answer as one number: a refusal's own, or what is made of what was accepted.
-pub fn answer_number<T, F: FnOnce(T) -> u64>(answer: Result<T, Refusal>, accepted: F) -> u64
+pub fn answer_number<N: From<u8>, T, F: FnOnce(T) -> N>(
+    answer: Result<T, Refusal>,
+    accepted: F,
+) -> N
     requires { ForOk answer (F.pre accepted) }
-    ensures { MatchResult answer (λ value. F.post accepted value result) (λ why. result ≡ number_of why) }
+    ensures { MatchResult answer (λ value. F.post accepted value result) (λ why. N.from_gives (number_of why) result) }
 {
     match answer {
-        Err(why) => u64::from(u8::from(why)),
+        Err(why) => N::from(u8::from(why)),
         Ok(value) => accepted(value),
     }
 }
@@ -82,10 +85,9 @@ pub fn ahb_read(text: &[u8], mode: u8, out: &mut [u8]) -> u64
 pub fn ahb_presence(tree: &[u8], answers: &[u8]) -> u32
     ensures { result ≡ presence_number (eval_answer tree.now answers.now) }
 {
-    match presence::eval(tree, answers) {
-        Err(why) => u32::from(u8::from(why)),
-        Ok(value) => PRESENT + u32::from(u8::from(value)),
-    }
+    answer_number(presence::eval(tree, answers), |truth| {
+        PRESENT + u32::from(u8::from(truth))
+    })
 }
 
 // Judges a value by a tree. Accepted: 2^32, and by mode 0 the number of the format truth, the list not looked

@@ -14,7 +14,7 @@ leaps y = (y + 3) / 4 + (y + 399) / 400 - (y + 99) / 100
 
 -- a year leaves one day beside its weeks, a leap year two: one test, computed at each of the 400 years
 pub year_weeks : (y : ℕ) → y < 400 → (y + leaps y) % 7 ≡ before_year y % 7
-year_weeks y l = eqb→eq _ _ (at (λ (k x : ℕ). eqb ((k + leaps k) % 7) (before_year k % 7)) (replicate 400 0) tt y l)
+year_weeks y l = eqb→eq _ _ (at (λ (k x : ℕ). eqb ((k + leaps k) % 7) (before_year k % 7)) (replicate 400 0) 0 tt y l)
 
 -- a last Sunday is a Sunday, and the next one is past the 31st
 pub sunday : (y m : ℕ) → (weekday y m (last_sunday y m) ≡ 0) × (24 < last_sunday y m) × (last_sunday y m ≤ 31)

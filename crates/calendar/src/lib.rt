@@ -1,5 +1,5 @@
 // The proleptic Gregorian calendar: dates and times that exist, last Sundays, and the summer time of German legal time. A date's
-// parts are parameters of their own, as in the definitions, where a struct would be taken apart.
+// parts are parameters of their own: the functions take two, three or five of them, so that one struct would be taken apart in each.
 
 #![tactic(auto)]
 
@@ -17,6 +17,7 @@ fn is_leap(year: u16) -> bool
     year % 4 == 0 && (year % 100 != 0 || year % 400 == 0)
 }
 
+#[tactic(auto, unfolding(crate::specs::Calendar::month_days))]
 fn month_days(year: u16, month: u8) -> u8
     ensures { result ≡ month_days year month }
 {
@@ -26,12 +27,14 @@ fn month_days(year: u16, month: u8) -> u8
     COMMON.get(usize::from(month)).copied().unwrap_or(0)
 }
 
+#[tactic(auto, unfolding(crate::specs::Calendar::is_date))]
 pub fn is_date(year: u16, month: u8, day: u8) -> bool
     ensures { result ≡ is_date year month day }
 {
     1 <= day && day <= month_days(year, month)
 }
 
+#[tactic(auto, unfolding(crate::specs::Calendar::is_time))]
 pub fn is_time(hour: u8, minute: u8) -> bool
     ensures { result ≡ is_time hour minute }
 {
@@ -75,6 +78,7 @@ fn moment(month: u32, day: u32, hour: u32, minute: u32) -> u32
 }
 
 // Whether a moment, in UTC, lies in the summer time of its year.
+#[tactic(auto, unfolding(crate::specs::Calendar::is_mesz))]
 pub fn is_mesz(year: u16, month: u8, day: u8, hour: u8, minute: u8) -> bool
     ensures { result ≡ is_mesz year month day hour minute }
 {

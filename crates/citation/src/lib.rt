@@ -104,7 +104,7 @@ impl ConditionKind {
         if text::begins_at(text, 0, b"UB") {
             return ConditionKind::Zeitpunkt;
         }
-        if text::find(text, b"P") < text.len() {
+        if text::has(text, b"P") {
             return ConditionKind::Paket;
         }
         match text::number_up_to(text, LARGEST_NUMBER) {
@@ -144,10 +144,7 @@ pub struct Paket {
 fn range_of(name: usize, r: &[u8]) -> Result<Paket, Refusal>
     ensures { result ≡ range_of name r.now }
 {
-    let at = text::find(r, b"..");
-    if r.len() <= at {
-        return Err(Refusal::NotAPaket);
-    }
+    let at = text::position(r, b"..").ok_or(Refusal::NotAPaket)?;
     let low = text::number_up_to(text::head(r, at), LARGEST_BOUND).ok_or(Refusal::NotAPaket)?;
     let last = text::tail(r, at + 2);
     let high = if text::same_bytes(last, b"n") {
@@ -178,8 +175,8 @@ impl Paket {
     pub fn of_text(text: &[u8]) -> Result<Paket, Refusal>
         ensures { result ≡ paket_of text.now }
     {
-        let p = text::find(text, b"P");
-        if text.len() <= p || p == 0 || !text::all_digits(text::head(text, p)) {
+        let p = text::position(text, b"P").ok_or(Refusal::NotAPaket)?;
+        if p == 0 || !text::all_digits(text::head(text, p)) {
             return Err(Refusal::NotAPaket);
         }
         bounds_of(p + 1, text::tail(text, p + 1))

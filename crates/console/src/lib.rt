@@ -16,7 +16,8 @@ pub fn read_some<R: Read>(input: &mut R, buf: &mut [u8]) -> usize
 }
 
 // Hands on what comes, piece by piece, up to the end of the input or to a piece for which `each` answers false.
-// Nothing says that the input ends, so the turns are counted, up to a number that no run uses up.
+// Nothing says that the input ends, so the turns are counted, up to a number that no run uses up; and nothing is ensured of what came, since that is for `each` to say,
+// whose clauses are the caller's.
 pub fn each_piece<R: Read, F: FnMut(&[u8]) -> bool>(input: &mut R, mut each: F)
     requires { F.IsAlwaysCallable each }
 {

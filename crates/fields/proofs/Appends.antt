@@ -4,10 +4,11 @@ use mathlib.Core.List.{List, [], ◌∷◌, ◌++◌, append_assoc, append-nil}
 use Prim.Native.Nat.{ℕ, zero, suc, ◌+◌, ◌-◌, ◌/◌, ◌%◌, ◌≤◌, ◌<◌}
 use native.Mathlib.Numerals.{add-one}
 use native.Mathlib.Omega.{arith}
-use lib.ListN.{length, take, drop, set, length-append, length-set}
+use lib.ListN.{length, take, drop, set, length-append}
 use lib.Seq.{take-suc-set, drop-set-lt, drop-drop}
 use borrow.Rule.Slice.PartMut.{put_mid}
 use Rattle.std.proofs.lemmas.Slice.{take-put_mid, drop-put_mid}
+use Rattle.std.specs.Int.{w16, to_le_bytes}
 use Rattle.grammar.specs.Bytes.{two_bytes}
 use Rattle.fields.specs.Appended.{Appended}
 
@@ -48,14 +49,12 @@ whole {text} {q} {old} {new} h =
     let e : q ≡ length text = omega (arith, h.ends) in
     sym (take_whole q new) ∙ ap (λ x. x ++ drop q new) h.has ∙ ap (λ x. text ++ x) h.rest ∙ ap (λ (x : ℕ). text ++ drop x old) e
 
--- two bytes
-pub two : (old : List ℕ) (at v : ℕ) → at + 2 ≤ length old → Appended (two_bytes v) at old (set (set old at (v % 256)) (at + 1) (v / 256)) (at + 2)
+-- the two bytes of a number as std says them
+pub two_said : (v : ℕ) → v < 65536 → to_le_bytes w16 v ≡ two_bytes v
 unfolding two_bytes
-two old at v h =
-    let a = byte old at (v % 256) (omega arith) in
-    let b = byte (set old at (v % 256)) (at + 1) (v / 256) (rw length-set (omega arith)) in
-    let e : at + 1 + 1 ≡ at + 2 = omega arith in
-    rw e at (both a b)
+two_said v h =
+    let e : v / 256 % 256 ≡ v / 256 = omega arith in
+    ap (λ x. (v % 256) ∷ x ∷ []) e
 
 -- a text that was copied over the bytes from `at` on
 pub copied : (text old copy : List ℕ) (at : ℕ) → at + length text ≤ length old → copy ≡ text → Appended text at old (put_mid at (at + length text - at) old copy) (at + length text)

@@ -1,7 +1,6 @@
 -- The 47 format conditions, each with its rule, looked up by their texts byte for byte (docs/SEMANTICS.md, 'Format conditions'). Assumes nothing.
-use Rattle.std.specs.Prelude.{ℕ, ◌+◌, ◌-◌, ◌*◌, ◌≡◌, refl, List, [], ◌∷◌, ◌++◌, map, length, replicate, Bool, true, false, cond, not, ◌&&◌, eqb}
+use Rattle.std.specs.Prelude.{ℕ, ◌+◌, ◌-◌, ◌*◌, ◌≡◌, refl, List, [], ◌∷◌, ◌++◌, map, length, replicate, Bool, true, false, cond, not, ◌&&◌, eqb, Option, Some, None, is_some}
 use Prim.Native.String.{String}
-use Rattle.std.proofs.Math.Option.{Option, none, some}
 use Rattle.text.specs.Quoted.{ascii}
 use Rattle.text.specs.Bytes.{same}
 use Rattle.text.specs.Digits.{is_digit}
@@ -95,31 +94,26 @@ rules_47 = refl
 
 -- the rule of the condition with this text
 unfoldable pub rule_of : Rows → List ℕ → Option Rule
-rule_of [] t = none
-rule_of (r ∷ rs) t = cond (same r.0 t) (some r.1) (rule_of rs t)
+rule_of [] t = None
+rule_of (r ∷ rs) t = cond (same r.0 t) (Some r.1) (rule_of rs t)
 
 -- the verdict by a rule, or none
 abbrev pub judged_by : Option Rule → List ℕ → FormatVerdict
-judged_by none v = Unregistered
-judged_by (some r) v = judged r v
+judged_by None v = Unregistered
+judged_by (Some r) v = judged r v
 
 -- the verdict of the condition with this text on a value
 unfoldable pub verdict : List ℕ → List ℕ → FormatVerdict
 verdict t v = judged_by (rule_of rules t) v
 
--- there is a rule
-abbrev pub is_rule : Option Rule → Bool
-is_rule none = false
-is_rule (some r) = true
-
 -- the condition with this text has an evaluator
 unfoldable pub is_registered : List ℕ → Bool
-is_registered t = is_rule (rule_of rules t)
+is_registered t = is_some (rule_of rules t)
 
 -- no text stands twice
 abbrev pub distinct : Rows → Bool
 distinct [] = true
-distinct (r ∷ rs) = not (is_rule (rule_of rs r.0)) && distinct rs
+distinct (r ∷ rs) = not (is_some (rule_of rs r.0)) && distinct rs
 
 -- the 47 texts are all different
 pub rules-distinct : distinct rules ≡ true
@@ -127,7 +121,7 @@ unfolding rule_of
 rules-distinct = refl
 
 -- so each condition of the table has the rule of its row
-pub rules_found : map (λ r. rule_of rules r.0) rules ≡ map (λ r. some r.1) rules
+pub rules_found : map (λ r. rule_of rules r.0) rules ≡ map (λ r. Some r.1) rules
 unfolding rule_of
 rules_found = refl
 
@@ -140,7 +134,7 @@ abbrev pub near_misses : List (List ℕ)
 near_misses = ascii "0902" ∷ ascii "+902" ∷ ascii " 902" ∷ ascii "UB4" ∷ ascii "UB01" ∷ []
 
 -- none of these has a rule
-pub no_rule : map (rule_of rules) (identifiers ++ near_misses) ≡ replicate 11 none
+pub no_rule : map (rule_of rules) (identifiers ++ near_misses) ≡ replicate 11 None
 unfolding rule_of
 no_rule = refl
 
@@ -149,28 +143,34 @@ pub none_registered : (v : List ℕ) → map (λ t. verdict t v) (identifiers ++
 unfolding rule_of verdict
 none_registered v = refl
 
--- a number that stands for a text of three digits or of UB and a digit, 0 for any other; the code looks conditions up by it
-abbrev pub id_of3 : ℕ → ℕ → ℕ → ℕ
+-- the number of a text of three digits or of UB and a digit; the code looks conditions up by it
+abbrev pub id_of3 : ℕ → ℕ → ℕ → Option ℕ
 id_of3 a b c =
     cond (is_digit c)
     (cond (is_digit a)
-    (cond (is_digit b) ((a - 48) * 100 + (b - 48) * 10 + (c - 48)) 0)
-    (cond (eqb a 85 && eqb b 66) (1000 + (c - 48)) 0))
-    0
+    (cond (is_digit b) (Some ((a - 48) * 100 + (b - 48) * 10 + (c - 48))) None)
+    (cond (eqb a 85 && eqb b 66) (Some (1000 + (c - 48))) None))
+    None
 
 -- the same of a text
-unfoldable pub id_of : List ℕ → ℕ
-id_of [] = 0
-id_of (a ∷ []) = 0
-id_of (a ∷ b ∷ []) = 0
+unfoldable pub id_of : List ℕ → Option ℕ
+id_of [] = None
+id_of (a ∷ []) = None
+id_of (a ∷ b ∷ []) = None
 id_of (a ∷ b ∷ c ∷ []) = id_of3 a b c
-id_of (a ∷ b ∷ c ∷ d ∷ s) = 0
+id_of (a ∷ b ∷ c ∷ d ∷ s) = None
+
+-- two texts have the same number
+abbrev pub same_id : Option ℕ → Option ℕ → Bool
+same_id (Some n) (Some m) = eqb n m
+same_id (Some n) None = false
+same_id None m = false
 
 -- the rule of the condition with this number
-unfoldable pub rule_at : Rows → ℕ → Option Rule
-rule_at [] n = none
-rule_at (r ∷ rs) n = cond (eqb n (id_of r.0)) (some r.1) (rule_at rs n)
+unfoldable pub rule_at : Rows → Option ℕ → Option Rule
+rule_at [] id = None
+rule_at (r ∷ rs) id = cond (same_id id (id_of r.0)) (Some r.1) (rule_at rs id)
 
 -- the verdict of the condition with this number, among these, on a value
 unfoldable pub judged_in : Rows → ℕ → List ℕ → FormatVerdict
-judged_in rows n v = judged_by (rule_at rows n) v
+judged_in rows n v = judged_by (rule_at rows (Some n)) v

@@ -1,13 +1,14 @@
 // Format conditions: what each of the 47 that have an evaluator here says of a value.
 
-#![tactic(auto, unfolding(crate::specs::Rules::judged))]
+#![tactic(auto, unfolding(crate::specs::Rules::judged, crate::specs::Table::judged_in, crate::specs::Table::rule_at, crate::specs::Table::id_of))]
 
-ghost use Rattle.std.specs.Prelude.{◌≡◌, ◌≤◌, length, drop, [], ◌∷◌, ◌++◌};
-ghost use Rattle.formats.specs.Rules.{meets, group_ahead, digit_groups, is_unoc_upper, bound, any_number, whole_between, fraction_up_to, integer_up_to, groups_of, length_is, length_up_to, field_is, hhmm_in, unoc_upper, zzz_utc, email_shape, phone_shape, boundary_at, boundary_of, passes, verdict_of, judged};
+ghost use Rattle.std.specs.Prelude.{◌≡◌, ◌≤◌, ◌++◌};
+ghost use Rattle.formats.specs.Rules.{meets, group_ahead, is_unoc_upper, bound, any_number, whole_between, fraction_up_to, integer_up_to, groups_of, length_is, length_up_to, field_is, hhmm_in, unoc_upper, zzz_utc, email_shape, phone_shape, boundary_at, boundary_of, passes, verdict_of};
 ghost use Rattle.formats.specs.Table.{digit_rules, shape_rules, time_rules, rules, id_of, judged_in, verdict};
-ghost use Rattle.formats.specs.Answers.{is_verdict, verdict_number, verdict_truth, verdict_answer, registered_answer};
+ghost use Rattle.formats.specs.Answers.{verdict_number, verdict_truth, verdict_answer, registered_answer};
 
 use citation::Truth;
+use moment::{Day, day_boundary};
 use refusal::Refusal;
 use std::cmp::Ordering;
 
@@ -85,45 +86,37 @@ fn meets_order(relation: Relation, order: Option<Ordering>) -> bool
 
 // Whether the value is a number in this relation to an integer, below zero or not.
 // Relation, sign and size are three arguments, as in the rules: a struct of them would be spelt out in each row of `judge`.
-fn in_relation(value: &[u8], relation: Relation, below: bool, size: u32) -> bool
+fn compare(value: &[u8], relation: Relation, below: bool, size: u32) -> bool
     ensures { result ≡ passes (bound relation below size) value.now }
 {
     meets_order(relation, decimal::compare(value, below, size))
 }
 
-fn compare(value: &[u8], relation: Relation, below: bool, size: u32) -> FormatVerdict
-    ensures { result ≡ judged (bound relation below size) value.now }
+fn numeric(value: &[u8]) -> bool
+    ensures { result ≡ passes any_number value.now }
 {
-    FormatVerdict::from(in_relation(value, relation, below, size))
-}
-
-fn numeric(value: &[u8]) -> FormatVerdict
-    ensures { result ≡ judged any_number value.now }
-{
-    FormatVerdict::from(decimal::is_number(value))
+    decimal::is_number(value)
 }
 
 // A whole number from low to high.
-fn between(value: &[u8], low: u32, high: u32) -> FormatVerdict
-    ensures { result ≡ judged (whole_between low high) value.now }
+fn between(value: &[u8], low: u32, high: u32) -> bool
+    ensures { result ≡ passes (whole_between low high) value.now }
 {
-    FormatVerdict::from(
-        in_relation(value, Relation::AtLeast, false, low)
-            && in_relation(value, Relation::AtMost, false, high)
-            && decimal::is_integer(value),
-    )
+    compare(value, Relation::AtLeast, false, low)
+        && compare(value, Relation::AtMost, false, high)
+        && decimal::is_integer(value)
 }
 
-fn max_fraction_digits(value: &[u8], most: usize) -> FormatVerdict
-    ensures { result ≡ judged (fraction_up_to most) value.now }
+fn max_fraction_digits(value: &[u8], most: usize) -> bool
+    ensures { result ≡ passes (fraction_up_to most) value.now }
 {
-    FormatVerdict::from(decimal::fraction_at_most(value, most))
+    decimal::fraction_at_most(value, most)
 }
 
-fn max_integer_digits(value: &[u8], most: usize) -> FormatVerdict
-    ensures { result ≡ judged (integer_up_to most) value.now }
+fn max_integer_digits(value: &[u8], most: usize) -> bool
+    ensures { result ≡ passes (integer_up_to most) value.now }
 {
-    FormatVerdict::from(decimal::integer_at_most(value, most))
+    decimal::integer_at_most(value, most)
 }
 
 // So many digits and a `-` stand in front.
@@ -133,8 +126,10 @@ fn group_ahead(rest: &[u8], width: usize) -> bool
     text::all_digits(text::head(rest, width)) && text::begins_at(rest, width, b"-")
 }
 
-fn fits_groups(value: &[u8], widths: &[usize]) -> bool
-    ensures { result ≡ digit_groups widths.now value.now }
+// Groups of so many digits each, joined by `-`.
+#[tactic(auto, unfolding(crate::specs::Rules::digit_groups))]
+fn digit_groups(value: &[u8], widths: &[usize]) -> bool
+    ensures { result ≡ passes (groups_of widths.now) value.now }
 {
     let Some((last, before)) = widths.split_last() else {
         return false;
@@ -149,141 +144,119 @@ fn fits_groups(value: &[u8], widths: &[usize]) -> bool
     rest.len() == *last && text::all_digits(rest)
 }
 
-// Groups of so many digits each, joined by `-`.
-fn digit_groups(value: &[u8], widths: &[usize]) -> FormatVerdict
-    ensures { result ≡ judged (groups_of widths.now) value.now }
+fn exact_length(value: &[u8], count: usize) -> bool
+    ensures { result ≡ passes (length_is count) value.now }
 {
-    FormatVerdict::from(fits_groups(value, widths))
+    utf8::count(value) == count
 }
 
-fn exact_length(value: &[u8], count: usize) -> FormatVerdict
-    ensures { result ≡ judged (length_is count) value.now }
+fn max_length(value: &[u8], most: usize) -> bool
+    ensures { result ≡ passes (length_up_to most) value.now }
 {
-    FormatVerdict::from(utf8::count(value) == count)
-}
-
-fn max_length(value: &[u8], most: usize) -> FormatVerdict
-    ensures { result ≡ judged (length_up_to most) value.now }
-{
-    FormatVerdict::from(utf8::count(value) <= most)
+    utf8::count(value) <= most
 }
 
 // A text that stands from a byte on in a value CCYYMMDDHHMMZZZ.
-fn dtm_303_field(value: &[u8], at: usize, want: &[u8]) -> FormatVerdict
+fn dtm_303_field(value: &[u8], at: usize, want: &[u8]) -> bool
     requires { at ≤ 15 }
-    ensures { result ≡ judged (field_is at want.now) value.now }
+    ensures { result ≡ passes (field_is at want.now) value.now }
 {
-    FormatVerdict::from(
-        value.len() == 15
-            && text::all_digits(text::head(value, 12))
-            && text::begins_at(value, at, want),
-    )
+    value.len() == 15 && text::all_digits(text::head(value, 12)) && text::begins_at(value, at, want)
 }
 
 // Four digits in this relation to a bound.
-fn hhmm(value: &[u8], relation: Relation, limit: u32) -> FormatVerdict
-    ensures { result ≡ judged (hhmm_in relation limit) value.now }
+fn hhmm(value: &[u8], relation: Relation, limit: u32) -> bool
+    ensures { result ≡ passes (hhmm_in relation limit) value.now }
 {
-    FormatVerdict::from(
-        value.len() == 4 && text::all_digits(value) && in_relation(value, relation, false, limit),
-    )
+    value.len() == 4 && text::all_digits(value) && compare(value, relation, false, limit)
 }
 
-// Marks of the Latin-1 codes: 1 where condition 918 admits the character.
-const UNOC_UPPER: [u8; 256] = [
-    0, 0, 0, 0, 0, 0, 0, 0, 0, 0, 0, 0, 0, 0, 0, 0, 0, 0, 0, 0, 0, 0, 0, 0, 0, 0, 0, 0, 0, 0, 0, 0,
-    1, 1, 1, 1, 1, 1, 1, 1, 1, 1, 1, 1, 1, 1, 1, 1, 1, 1, 1, 1, 1, 1, 1, 1, 1, 1, 1, 1, 1, 1, 1, 1,
-    1, 1, 1, 1, 1, 1, 1, 1, 1, 1, 1, 1, 1, 1, 1, 1, 1, 1, 1, 1, 1, 1, 1, 1, 1, 1, 1, 1, 1, 1, 1, 1,
-    1, 0, 0, 0, 0, 0, 0, 0, 0, 0, 0, 0, 0, 0, 0, 0, 0, 0, 0, 0, 0, 0, 0, 0, 0, 0, 0, 1, 1, 1, 1, 0,
-    0, 0, 0, 0, 0, 0, 0, 0, 0, 0, 0, 0, 0, 0, 0, 0, 0, 0, 0, 0, 0, 0, 0, 0, 0, 0, 0, 0, 0, 0, 0, 0,
-    1, 1, 1, 1, 1, 1, 1, 1, 1, 1, 0, 1, 1, 1, 1, 1, 1, 1, 1, 1, 1, 0, 1, 1, 1, 1, 0, 1, 1, 1, 1, 1,
-    1, 1, 1, 1, 1, 1, 1, 1, 1, 1, 1, 1, 1, 1, 1, 1, 1, 1, 1, 1, 1, 1, 1, 1, 1, 1, 1, 1, 1, 1, 1, 0,
-    0, 0, 0, 0, 0, 0, 0, 0, 0, 0, 0, 0, 0, 0, 0, 0, 0, 0, 0, 0, 0, 0, 0, 1, 0, 0, 0, 0, 0, 0, 0, 0,
+// Marks of the Latin-1 codes: true where condition 918 admits the character.
+const UNOC_UPPER: [bool; 256] = [
+    false, false, false, false, false, false, false, false, false, false, false, false, false,
+    false, false, false, false, false, false, false, false, false, false, false, false, false,
+    false, false, false, false, false, false, true, true, true, true, true, true, true, true, true,
+    true, true, true, true, true, true, true, true, true, true, true, true, true, true, true, true,
+    true, true, true, true, true, true, true, true, true, true, true, true, true, true, true, true,
+    true, true, true, true, true, true, true, true, true, true, true, true, true, true, true, true,
+    true, true, true, true, true, true, true, true, false, false, false, false, false, false,
+    false, false, false, false, false, false, false, false, false, false, false, false, false,
+    false, false, false, false, false, false, false, true, true, true, true, false, false, false,
+    false, false, false, false, false, false, false, false, false, false, false, false, false,
+    false, false, false, false, false, false, false, false, false, false, false, false, false,
+    false, false, false, false, true, true, true, true, true, true, true, true, true, true, false,
+    true, true, true, true, true, true, true, true, true, true, false, true, true, true, true,
+    false, true, true, true, true, true, true, true, true, true, true, true, true, true, true,
+    true, true, true, true, true, true, true, true, true, true, true, true, true, true, true, true,
+    true, true, true, true, true, true, false, false, false, false, false, false, false, false,
+    false, false, false, false, false, false, false, false, false, false, false, false, false,
+    false, false, false, true, false, false, false, false, false, false, false, false,
 ];
 
 fn is_unoc_upper(code: u32) -> bool
     ensures { result ≡ is_unoc_upper code }
 {
-    code < 256 && UNOC_UPPER[code as usize] == 1
+    code < 256 && UNOC_UPPER[code as usize]
 }
 
-fn all_unoc_upper(value: &[u8]) -> bool
+fn unoc_upper(value: &[u8]) -> bool
     ensures { result ≡ passes unoc_upper value.now }
 {
-    let mut at = 0;
-    // Steps by a character's width.
-    loop {
-        match utf8::step_at(value, at) {
-            utf8::Step::Char { code, width } => {
-                if !is_unoc_upper(code) {
-                    return false;
-                }
-                at += width;
-            }
-            utf8::Step::Bad => return false,
-            utf8::Step::End => return true,
+    for (_, code) in utf8::Walker::new(value, 0) {
+        let Some(code) = code else {
+            return false;
+        };
+        if !is_unoc_upper(code) {
+            return false;
         }
     }
+    true
 }
 
-fn unoc_upper(value: &[u8]) -> FormatVerdict
-    ensures { result ≡ judged unoc_upper value.now }
+fn zzz_utc(value: &[u8]) -> bool
+    ensures { result ≡ passes zzz_utc value.now }
 {
-    FormatVerdict::from(all_unoc_upper(value))
+    text::ends_with(value, b"+00")
 }
 
-fn zzz_utc(value: &[u8]) -> FormatVerdict
-    ensures { result ≡ judged zzz_utc value.now }
+fn email_shape(value: &[u8]) -> bool
+    ensures { result ≡ passes email_shape value.now }
 {
-    FormatVerdict::from(text::ends_with(value, b"+00"))
+    text::has(value, b"@") && text::has(value, b".")
 }
 
-fn email_shape(value: &[u8]) -> FormatVerdict
-    ensures { result ≡ judged email_shape value.now }
+fn phone_shape(value: &[u8]) -> bool
+    ensures { result ≡ passes phone_shape value.now }
 {
-    FormatVerdict::from(
-        text::find(value, b"@") < value.len() && text::find(value, b".") < value.len(),
-    )
+    2 <= value.len() && text::begins_at(value, 0, b"+") && text::all_digits(text::tail(value, 1))
 }
 
-fn phone_shape(value: &[u8]) -> FormatVerdict
-    ensures { result ≡ judged phone_shape value.now }
+// A day that begins at midnight in Germany.
+const MIDNIGHT: Day<'static> = Day {
+    summer: b"2200",
+    winter: b"2300",
+};
+
+// A gas day, which begins at six o'clock in Germany.
+const GAS_DAY: Day<'static> = Day {
+    summer: b"0400",
+    winter: b"0500",
+};
+
+// A day boundary of one kind or of the other.
+fn either_boundary(value: &[u8], one: Day, other: Day) -> bool
+    ensures { result ≡ passes (boundary_of one.entry.summer.now one.entry.winter.now other.entry.summer.now other.entry.winter.now) value.now }
 {
-    FormatVerdict::from(
-        2 <= value.len()
-            && text::begins_at(value, 0, b"+")
-            && text::all_digits(text::tail(value, 1)),
-    )
+    day_boundary(value, one) || day_boundary(value, other)
 }
 
-// A day boundary of one of the two kinds of day: two texts, as each row of `judge` spells them.
-fn day_boundary(value: &[u8], summer: &[u8], winter: &[u8]) -> FormatVerdict
-    ensures { result ≡ judged (boundary_at summer.now winter.now) value.now }
-{
-    FormatVerdict::from(moment::day_boundary(value, summer, winter))
-}
-
-// A day boundary of one kind or of another.
-fn either_boundary(
-    value: &[u8],
-    summer: &[u8],
-    winter: &[u8],
-    summer2: &[u8],
-    winter2: &[u8],
-) -> FormatVerdict
-    ensures { result ≡ judged (boundary_of summer.now winter.now summer2.now winter2.now) value.now }
-{
-    FormatVerdict::from(
-        moment::day_boundary(value, summer, winter)
-            || moment::day_boundary(value, summer2, winter2),
-    )
-}
-
-// Times and day boundaries. The match of `judge` is cut in four, a family of rules each.
+// Times and day boundaries. The match of `judge` is cut in four, a family of rules each, since a function here has under 40 lines.
+// A call of its own: what its arguments take of the stack would else be taken at each level of a tree.
+#[inline(never)]
 fn judge_times(id: u32, value: &[u8]) -> FormatVerdict
     ensures { result ≡ judged_in time_rules id value.now }
 {
-    match id {
+    let passed = match id {
         932 => dtm_303_field(value, 8, b"2200"),
         933 => dtm_303_field(value, 8, b"2300"),
         934 => dtm_303_field(value, 8, b"0400"),
@@ -291,18 +264,19 @@ fn judge_times(id: u32, value: &[u8]) -> FormatVerdict
         947 => dtm_303_field(value, 4, b"12312300"),
         964 => hhmm(value, Relation::AtLeast, 0),
         965 => hhmm(value, Relation::AtMost, 2359),
-        1001 => day_boundary(value, b"2200", b"2300"),
-        1002 => day_boundary(value, b"0400", b"0500"),
-        1003 => either_boundary(value, b"2200", b"2300", b"0400", b"0500"),
-        _ => FormatVerdict::Unregistered,
-    }
+        1001 => day_boundary(value, MIDNIGHT),
+        1002 => day_boundary(value, GAS_DAY),
+        1003 => either_boundary(value, MIDNIGHT, GAS_DAY),
+        _ => return FormatVerdict::Unregistered,
+    };
+    FormatVerdict::from(passed)
 }
 
 // Digit groups, lengths and other shapes, then the rest.
 fn judge_shapes(id: u32, value: &[u8]) -> FormatVerdict
     ensures { result ≡ judged_in (shape_rules ++ time_rules) id value.now }
 {
-    match id {
+    let passed = match id {
         942 => digit_groups(value, &[1, 2, 1, 3]),
         943 => digit_groups(value, &[1, 2, 1]),
         948 => digit_groups(value, &[1, 2, 1, 8, 2]),
@@ -315,15 +289,16 @@ fn judge_shapes(id: u32, value: &[u8]) -> FormatVerdict
         931 => zzz_utc(value),
         939 => email_shape(value),
         940 => phone_shape(value),
-        _ => judge_times(id, value),
-    }
+        _ => return judge_times(id, value),
+    };
+    FormatVerdict::from(passed)
 }
 
 // Digits after and before the point, then the rest.
 fn judge_digits(id: u32, value: &[u8]) -> FormatVerdict
     ensures { result ≡ judged_in (digit_rules ++ (shape_rules ++ time_rules)) id value.now }
 {
-    match id {
+    let passed = match id {
         906 => max_fraction_digits(value, 3),
         907 => max_fraction_digits(value, 4),
         912 => max_fraction_digits(value, 6),
@@ -333,8 +308,9 @@ fn judge_digits(id: u32, value: &[u8]) -> FormatVerdict
         946 => max_fraction_digits(value, 11),
         917 => max_integer_digits(value, 4),
         962 => max_integer_digits(value, 6),
-        _ => judge_shapes(id, value),
-    }
+        _ => return judge_shapes(id, value),
+    };
+    FormatVerdict::from(passed)
 }
 
 // Numbers against a bound, then the rest. The match on numbers is the original's, arm by arm, so that both can be held side by
@@ -342,7 +318,7 @@ fn judge_digits(id: u32, value: &[u8]) -> FormatVerdict
 fn judge(id: u32, value: &[u8]) -> FormatVerdict
     ensures { result ≡ judged_in rules id value.now }
 {
-    match id {
+    let passed = match id {
         902 => compare(value, Relation::AtLeast, false, 0),
         903 => compare(value, Relation::Exactly, false, 1),
         908 => compare(value, Relation::AtLeast, false, 1),
@@ -359,35 +335,40 @@ fn judge(id: u32, value: &[u8]) -> FormatVerdict
         963 => compare(value, Relation::AtMost, false, 100),
         968 => compare(value, Relation::AtMost, false, 0),
         969 => compare(value, Relation::AtMost, false, 1),
-        _ => judge_digits(id, value),
-    }
+        _ => return judge_digits(id, value),
+    };
+    FormatVerdict::from(passed)
 }
 
-// The number of a text of three digits or of UB and a digit, 0 of any other: no row has it, so an `Option` would only be one more arm.
-fn id_of(text: &[u8]) -> u32
+// The number of a text of three digits or of UB and a digit.
+fn id_of(text: &[u8]) -> Option<u32>
     ensures { result ≡ id_of text.now }
 {
     let [a, b, c] = text else {
-        return 0;
+        return None;
     };
     if !text::is_digit(*c) {
-        return 0;
+        return None;
     }
     let last = u32::from(*c - b'0');
     if text::is_digit(*a) && text::is_digit(*b) {
-        return u32::from(*a - b'0') * 100 + u32::from(*b - b'0') * 10 + last;
+        return Some(u32::from(*a - b'0') * 100 + u32::from(*b - b'0') * 10 + last);
     }
     if *a == b'U' && *b == b'B' {
-        return 1000 + last;
+        return Some(1000 + last);
     }
-    0
+    None
 }
 
 // The verdict of the condition with this text on a value, whatever their bytes.
+#[tactic(auto, using(crate::proofs::Ids::verdict_some, crate::proofs::Ids::verdict_none))]
 pub fn verdict_on(text: &[u8], value: &[u8]) -> FormatVerdict
     ensures { result ≡ verdict text.now value.now }
 {
-    judge(id_of(text), value)
+    match id_of(text) {
+        Some(id) => judge(id, value),
+        None => FormatVerdict::Unregistered,
+    }
 }
 
 pub fn evaluate(text: &[u8], value: &[u8]) -> Result<FormatVerdict, Refusal>

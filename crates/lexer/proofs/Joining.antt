@@ -5,7 +5,7 @@ use mathlib.Core.Bool.{Bool, true, false, cond}
 use mathlib.Core.List.{List, [], ◌∷◌, ◌++◌, append_assoc, append-nil}
 use native.Mathlib.Omega.{arith}
 use lib.Dec.{eqb}
-use lib.ListN.{length, take, drop, set}
+use lib.ListN.{length, take, drop}
 use lib.Seq.{append_snoc}
 use borrow.Author.Tests.{eq-eqb, ne_eqb, eqb-true, eqb-false}
 use Rattle.utf8.specs.Utf8.{is_utf8, decode, encode, encode_char}
@@ -15,7 +15,7 @@ use Rattle.grammar.specs.Status.{ended, words_from, words, spaced, joined}
 use Rattle.fields.specs.Appended.{Appended}
 use Rattle.fields.proofs.Appends as appends
 use Rattle.lexer.specs.Runs.{leading, trailing, run_end, gap}
-use Rattle.lexer.proofs.Split.{encode_append, Passed, passed, some_left, none_left}
+use Rattle.lexer.proofs.Split.{encode_append, Passed, passed, some_left}
 use Rattle.lexer.proofs.Runs.{lead_trail, trail_stop, run_starts}
 
 pub words_none : words [] ≡ []
@@ -100,22 +100,13 @@ gap_none n h = rw (eq-eqb n 0 h)
 pub gap_some : (n : ℕ) → (n ≡ 0 → ⊥) → length (gap n) ≡ 1
 gap_some n h = rw (ne_eqb n 0 h)
 
--- what `add_gap` writes
-pub first-added : (n : ℕ) (out : List ℕ) → n ≡ 0 → Appended (gap n) n out out 0
-first-added n out z = rw z (appends.nothing 0 out)
-
-pub next-added : (n : ℕ) (out : List ℕ) → (n ≡ 0 → ⊥) → n < length out → Appended (gap n) n out (set out n blank_char) (n + 1)
-next-added n out z l = appends.same (ap (λ (x : Bool). cond x [] (blank_char ∷ [])) (sym (ne_eqb n 0 z))) (appends.byte out n blank_char l)
-
--- the words from `from` up to `at` have been joined; at `at` a word begins, or the text is at its end
+-- the words from `from` up to `at` have been joined; none goes on at `at`
 pub record Joining (s : List ℕ) (from : ℕ) (old out : List ℕ) (at n : ℕ) : Type 0 where
   pub done : List (List ℕ)
-  pub later : from ≤ at
   pub room : at ≤ length s
   pub well : is_utf8 (drop at s) ≡ true
-  pub stop : leading true (decode (drop at s)) ≡ []
   pub less : from + n ≤ at
-  pub apart : (n ≡ 0 → ⊥) → at < length s → from + n < at
+  pub stop : (n ≡ 0 → ⊥) → leading false (decode (drop at s)) ≡ []
   pub none : n ≡ 0 → done ≡ []
   pub written : Appended (encode (joined done)) 0 old out n
   pub goes : words (decode (drop from s)) ≡ done ++ words (decode (drop at s))
@@ -123,112 +114,101 @@ pub record Joining (s : List ℕ) (from : ℕ) (old out : List ℕ) (at n : ℕ)
 joined_size : {text : List ℕ} {q : ℕ} {old new : List ℕ} → Appended text 0 old new q → q ≡ length text
 joined_size h = omega (arith, h.ends)
 
-pub joining_start : (s out : List ℕ) (from at : ℕ) → from ≤ length s → is_utf8 (drop from s) ≡ true → at ≡ run_end true s from → Joining s from out out at 0
-joining_start s out from at h u e =
-    let p = run-passed true s from h u in
-    let left : decode (drop at s) ≡ trailing true (decode (drop from s)) = ap (λ (n : ℕ). decode (drop n s)) e ∙ p.goes in
+pub joining_start : (s out : List ℕ) (from : ℕ) → from ≤ length s → is_utf8 (drop from s) ≡ true → Joining s from out out from 0
+joining_start s out from h u =
     record {
       done = [];
-      later = omega (arith, e);
-      room = omega (arith, e, p.room);
-      well = ap (λ (n : ℕ). is_utf8 (drop n s)) e ∙ p.well;
-      stop = ap (leading true) left ∙ trail_stop true (decode (drop from s));
-      less = omega (arith, e);
-      apart = λ k _. absurd (k refl);
+      room = h;
+      well = u;
+      less = omega arith;
+      stop = λ k. absurd (k refl);
       none = λ _. refl;
       written = appends.same (sym (ap encode joined_none)) (appends.nothing 0 out);
-      goes = words_white (decode (drop from s)) ∙ ap words (sym left);
+      goes = refl;
     }
 
--- one word more, which ends at `end`
-module _ {s old out : List ℕ} {from at n : ℕ} (h : Joining s from old out at n) (l : at < length s) (end : ℕ) (e : end ≡ run_end false s at) where
-  abbrev word : List ℕ
-  word = leading false (decode (drop at s))
+-- after the words up to `at`, white space up to p
+module _ {s old out : List ℕ} {from at n : ℕ} (h : Joining s from old out at n) (p : ℕ) (f : p ≡ run_end true s at) where
+  white : Passed s at (leading true (decode (drop at s))) (trailing true (decode (drop at s)))
+  white = run-passed true s at h.room h.well
 
-  abbrev rest : List ℕ
-  rest = trailing false (decode (drop at s))
+  white_left : decode (drop p s) ≡ trailing true (decode (drop at s))
+  white_left = ap (λ (k : ℕ). decode (drop k s)) f ∙ white.goes
 
-  pub word-later : at < end
-  word-later = omega (arith, e, run_starts true (decode (drop at s)) h.stop (some_left s at l h.well))
+  words_left : words (decode (drop at s)) ≡ words (decode (drop p s))
+  words_left = words_white (decode (drop at s)) ∙ ap words (sym white_left)
 
-  pub word_room : end ≤ length s
-  word_room = omega (arith, e, (run-passed false s at h.room h.well).room)
+  -- one word more, which ends at `end`
+  module _ (end : ℕ) (e : end ≡ run_end false s p) (l : p < end) where
+    abbrev word : List ℕ
+    word = leading false (decode (drop p s))
 
-  -- a space and the word have room
-  pub word_fits : from + (n + length (gap n) + (end - at)) ≤ end
-  word_fits = go (eqb n 0) refl
-    where
-      go : (b : Bool) → eqb n 0 ≡ b → from + (n + length (gap n) + (end - at)) ≤ end
-      go true z = omega (arith, gap_none n (eqb-true n 0 z), eqb-true n 0 z, h.later, word-later)
-      go false z = omega (arith, gap_some n (eqb-false n 0 z), h.apart (eqb-false n 0 z) l, word-later)
+    here : Passed s p word (trailing false (decode (drop p s)))
+    here = run-passed false s p (omega (arith, f, white.room)) (ap (λ (k : ℕ). is_utf8 (drop k s)) f ∙ white.well)
 
-  word_size : end - at ≡ length (encode word)
-  word_size = omega (arith, e)
+    pub word_room : end ≤ length s
+    word_room = omega (arith, e, here.room)
 
-  -- the word's bytes
-  word_long : length (take (end - at) (drop at s)) ≡ end - at
-  word_long = ap (λ (k : ℕ). length (take k (drop at s))) word_size ∙ ap length (run-passed false s at h.room h.well).bytes ∙ sym word_size
+    -- white space stands in front of a word that is not the first
+    apart : (n ≡ 0 → ⊥) → at < p
+    apart k = omega (arith, f, run_starts false (decode (drop at s)) (h.stop k) (some_left s at (omega (arith, f, l, word_room)) h.well))
 
-  word-ended : ended word ≡ word ∷ []
-  word-ended = ended_some word (omega (arith, word_size, word-later))
+    -- a space and the word have room
+    word_fits : from + (n + length (gap n) + (end - p)) ≤ end
+    word_fits = go (eqb n 0) refl
+      where
+        go : (b : Bool) → eqb n 0 ≡ b → from + (n + length (gap n) + (end - p)) ≤ end
+        go true z = omega (arith, gap_none n (eqb-true n 0 z), eqb-true n 0 z, h.less, f, l)
+        go false z = omega (arith, gap_some n (eqb-false n 0 z), h.less, apart (eqb-false n 0 z), l)
 
-  word_well : is_utf8 (drop end s) ≡ true
-  word_well = ap (λ (m : ℕ). is_utf8 (drop m s)) e ∙ (run-passed false s at h.room h.well).well
+    word_size : end - p ≡ length (encode word)
+    word_size = omega (arith, e)
 
-  word_left : decode (drop end s) ≡ rest
-  word_left = ap (λ (m : ℕ). decode (drop m s)) e ∙ (run-passed false s at h.room h.well).goes
+    bytes_on : take (end - p) (drop p s) ≡ encode word
+    bytes_on = ap (λ (k : ℕ). take k (drop p s)) word_size ∙ here.bytes
 
-  words_on : words (decode (drop at s)) ≡ word ∷ words rest
-  words_on = word_split (decode (drop at s)) ∙ ap (λ (x : List (List ℕ)). x ++ words rest) word-ended
+    word_left : decode (drop end s) ≡ trailing false (decode (drop p s))
+    word_left = ap (λ (k : ℕ). decode (drop k s)) e ∙ here.goes
 
-  -- the next begins at q
-  module _ (q : ℕ) (f : q ≡ run_end true s end) (to m : ℕ) (spaced-out out' : List ℕ) (v : Appended (gap n) n out spaced-out to)
-      (w : Appended (take (end - at) (drop at s)) to spaced-out out' m) where
-    abbrev g : to ≡ n + length (gap n)
-    g = v.ends
+    words_on : words (decode (drop at s)) ≡ word ∷ words (decode (drop end s))
+    words_on =
+        words_left
+        ∙ word_split (decode (drop p s))
+        ∙ ap (λ (x : List (List ℕ)). x ++ words (trailing false (decode (drop p s)))) (ended_some word (omega (arith, word_size, l)))
+        ∙ ap (λ (x : List ℕ). word ∷ words x) (sym word_left)
 
-    next : Passed s end (leading true (decode (drop end s))) (trailing true (decode (drop end s)))
-    next = run-passed true s end word_room word_well
+    module _ (to m : ℕ) (spaced-out out' : List ℕ) (v : Appended (gap n) n out spaced-out to) (w : Appended (take (end - p) (drop p s)) to spaced-out out' m) where
+      all : (encode (joined h.done) ++ gap n) ++ encode word ≡ encode (joined (h.done ++ (word ∷ [])))
+      all = sym (join_more n h.done word (joined_size h.written) h.none)
 
-    next_left : decode (drop q s) ≡ trailing true (decode (drop end s))
-    next_left = ap (λ (k : ℕ). decode (drop k s)) f ∙ next.goes
+      m-is : m ≡ n + length (gap n) + (end - p)
+      m-is = omega (arith, v.ends, w.ends, ap length bytes_on, word_size)
 
-    next-later : q < length s → end < q
-    next-later k =
-        omega (arith, f, run_starts false (decode (drop end s)) (ap (leading false) word_left ∙ trail_stop false (decode (drop at s))) (some_left s end (omega (arith, f)) word_well))
+      pub joining_on : Joining s from old out' end m
+      joining_on = record {
+        done = h.done ++ (word ∷ []);
+        room = word_room;
+        well = ap (λ (k : ℕ). is_utf8 (drop k s)) e ∙ here.well;
+        less = omega (arith, word_fits, m-is);
+        stop = λ _. ap (leading false) word_left ∙ trail_stop false (decode (drop p s));
+        none = λ z. absurd (omega (arith, m-is, z, l));
+        written = appends.same (ap (λ (x : List ℕ). (encode (joined h.done) ++ gap n) ++ x) bytes_on ∙ all) (appends.both (appends.both h.written v) w);
+        goes = h.goes ∙ ap (λ (x : List (List ℕ)). h.done ++ x) words_on ∙ sym (append_snoc h.done word (words (decode (drop end s))));
+      }
 
-    bytes_on : take (end - at) (drop at s) ≡ encode word
-    bytes_on = ap (λ (k : ℕ). take k (drop at s)) word_size ∙ (run-passed false s at h.room h.well).bytes
+no_word : (cs : List ℕ) → leading true cs ≡ [] → length (encode (leading false cs)) ≡ 0 → cs ≡ []
+no_word [] h z = refl
+no_word (c ∷ cs) h z = absurd (omega (arith, z, run_starts true (c ∷ cs) h (λ q. omega (arith, ap length q))))
 
-    all : (encode (joined h.done) ++ gap n) ++ encode word ≡ encode (joined (h.done ++ (word ∷ [])))
-    all = sym (join_more n h.done word (joined_size h.written) h.none)
-
-    m-is : m ≡ to + (end - at)
-    m-is = omega (arith, w.ends, word_long)
-
-    pub joining_on : Joining s from old out' q m
-    joining_on = record {
-      done = h.done ++ (word ∷ []);
-      later = omega (arith, h.later, word-later, f);
-      room = omega (arith, f, next.room);
-      well = ap (λ (k : ℕ). is_utf8 (drop k s)) f ∙ next.well;
-      stop = ap (leading true) next_left ∙ trail_stop true (decode (drop end s));
-      less = omega (arith, word_fits, g, f, m-is);
-      apart = λ _ k. omega (arith, word_fits, g, m-is, next-later k);
-      none = λ z. absurd (omega (arith, m-is, z, word-later));
-      written = appends.same (ap (λ (x : List ℕ). (encode (joined h.done) ++ gap n) ++ x) bytes_on ∙ all) (appends.both (appends.both h.written v) w);
-      goes =
-          h.goes
-          ∙ ap (λ (x : List (List ℕ)). h.done ++ x) (words_on ∙ ap (λ (x : List (List ℕ)). word ∷ x) (ap words (sym word_left) ∙ words_white (decode (drop end s)) ∙ ap words (sym next_left)))
-          ∙ sym (append_snoc h.done word (words (decode (drop q s))));
-    }
-
--- at the end of the text
-pub joining_end : {s old out : List ℕ} {from at n : ℕ} → Joining s from old out at n → length s ≤ at
+-- where no word is left
+pub joining_end : {s old out : List ℕ} {from at n : ℕ} → Joining s from old out at n → run_end false s (run_end true s at) ≡ run_end true s at
     → (n ≡ length (encode (joined (words (decode (drop from s)))))) × (out ≡ encode (joined (words (decode (drop from s)))) ++ drop n old)
 joining_end {s} {old} {out} {from} {at} {n} h l =
+    let p = run_end true s at in
+    let k : decode (drop p s) ≡ [] =
+    no_word (decode (drop p s)) (ap (leading true) (white_left h p refl) ∙ trail_stop true (decode (drop at s))) (omega (arith, l)) in
     let g : h.done ≡ words (decode (drop from s)) =
-    sym (h.goes ∙ ap (λ (x : List ℕ). h.done ++ words x) (none_left s at l) ∙ ap (λ (x : List (List ℕ)). h.done ++ x) words_none ∙ append-nil h.done) in
+    sym (h.goes ∙ ap (λ (x : List (List ℕ)). h.done ++ x) (words_left h p refl ∙ ap words k ∙ words_none) ∙ append-nil h.done) in
     let w = appends.same (ap (λ (x : List (List ℕ)). encode (joined x)) g) h.written in
     let size = joined_size w in
     (size, appends.whole w ∙ ap (λ (x : ℕ). encode (joined (words (decode (drop from s)))) ++ drop x old) (sym size))

@@ -15,8 +15,8 @@ use Rattle.grammar.specs.Expr as expr
 use Rattle.grammar.specs.Expr.{Op, concat}
 use Rattle.grammar.specs.Lex.{Tok, cited, op, opening, closing, lex, texts}
 use Rattle.grammar.specs.Parse.{parse}
-use Rattle.grammar.specs.Reading.{citation_limit, cited_limit, open_limit, some_token, few, shallow, tree, expression}
-use Rattle.lexer.specs.Tokens.{sign_kind, kind_of, deeper, depth, counted, limited, tokenized, counts_limited}
+use Rattle.grammar.specs.Reading.{open_limit, some_token, few, shallow, tree, expression}
+use Rattle.lexer.specs.Tokens.{sign_token, kind_of, deeper, depth, counted, limited, tokenized, counts_limited}
 use Rattle.lexer.specs.declared.Count.{Count}
 use Rattle.lexer.specs.declared.TokenKind.{TokenKind}
 use Rattle.lexer.specs.declared.TokenKind.TheVariants.{Opening, Closing}
@@ -41,7 +41,7 @@ unfolding depth
 depth_by d e t ts h = ap (λ (x : ℕ). depth x ts) h
 
 plain_op : (d : ℕ) (o : Op) → deeper d (kind_of (op o)) ≡ d
-unfolding kind_of sign_kind
+unfolding kind_of sign_token
 plain_op d expr.And = refl
 plain_op d expr.Or = refl
 plain_op d expr.Xor = refl
@@ -77,35 +77,6 @@ shallow-depth d (opening ∷ ts) h = rw (depth_by d (suc d) opening ts (opens d 
     go false e ih =
         let l : open_limit < suc d = omega (arith, ltb-false d open_limit e) in
         rw (e, depth-over (suc d) ts l) (lt-leb (suc d) open_limit l)
-
--- the tests on counts, by what was found
-module _ (p : Count) where
-  pub none_counted : p.tokens ≡ 0 → Err Empty ≡ counts_limited p
-  unfolding counts_limited
-  none_counted h = rw h
-
-  module _ (h : p.tokens ≡ 0 → ⊥) where
-    some : ltb 0 p.tokens ≡ true
-    some = lt-ltb 0 p.tokens (go p.tokens h)
-      where
-        go : (n : ℕ) → (n ≡ 0 → ⊥) → 0 < n
-        go n k = omega arith
-
-    pub many-counted : citation_limit < p.cites → Err TooManyCitations ≡ counts_limited p
-    unfolding counts_limited
-    many-counted k = rw (some, lt-leb p.cites citation_limit k)
-
-    pub large_counted : p.cites ≤ citation_limit → cited_limit < p.bytes → Err TooManyCitations ≡ counts_limited p
-    unfolding counts_limited
-    large_counted k l = rw (some, le-leb p.cites citation_limit k, lt-leb p.bytes cited_limit l)
-
-    pub deep_counted : p.cites ≤ citation_limit → p.bytes ≤ cited_limit → open_limit < p.depth → Err TooDeep ≡ counts_limited p
-    unfolding counts_limited
-    deep_counted k l m = rw (some, le-leb p.cites citation_limit k, le-leb p.bytes cited_limit l, lt-leb p.depth open_limit m)
-
-    pub all-counted : p.cites ≤ citation_limit → p.bytes ≤ cited_limit → p.depth ≤ open_limit → Ok (record { tokens = p.tokens; cites = p.cites; bytes = p.bytes }) ≡ counts_limited p
-    unfolding counts_limited
-    all-counted k l m = rw (some, le-leb p.cites citation_limit k, le-leb p.bytes cited_limit l, le-leb p.depth open_limit m)
 
 some_token_lem : (ts : List Tok) → ltb 0 (length ts) ≡ some_token ts
 unfolding some_token

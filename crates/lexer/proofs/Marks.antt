@@ -1,5 +1,5 @@
 -- The token that a text begins with. Assumes nothing.
-use Prim.Native.Nat.{ℕ, ◌+◌, ◌≤◌, ◌<◌}
+use Prim.Native.Nat.{ℕ, ◌+◌, ◌<◌}
 use mathlib.Core.Path.{◌≡◌, refl, sym, ap, ◌∙◌}
 use mathlib.Core.Bool.{true}
 use mathlib.Core.List.{List, [], ◌∷◌}
@@ -74,22 +74,22 @@ scan_stray : (at : ℕ) (x y : Scan) → outer_scan stray at x y ≡ halt Stray
 unfolding outer_scan
 scan_stray at x y = refl
 
-scan_step : (s : List ℕ) (at c w : ℕ) → at ≤ length s → step_at s at ≡ Char c w
+scan_step : (s : List ℕ) (at c w : ℕ) → step_at s at ≡ Char c w
     → scan at (decode (drop at s)) ≡ outer_scan (part c) at (scan_in (at + w) [] (decode (drop (at + w) s))) (scan (at + w) (decode (drop (at + w) s)))
 unfolding scan
-scan_step s at c w h e = rw (decode-at s at c w e, step_width s at c w h e)
+scan_step s at c w e = rw (decode-at s at c w e, step_width s at c w e)
 
 -- a character at `at` of w bytes, of which `part_of` then says m
 module _ (s : List ℕ) (at c w : ℕ) (h : at < length s) (u : is_utf8 (drop at s) ≡ true) (e : step_at s at ≡ Char c w) where
   pub step_ahead : Ahead s at (at + w)
   step_ahead =
-      let d = char_at s at c w (omega arith) e in
+      let d = char_at s at c w e in
       record { later = omega (arith, d.2); room = d.3; well = sym d.0 ∙ u }
 
   module _ (m : Meaning) (r : m ≡ meaning (part c)) where
     goes : (p : Part) → part c ≡ p → scan at (decode (drop at s)) ≡ outer_scan p at (scan_in (at + w) [] (decode (drop (at + w) s))) (scan (at + w) (decode (drop (at + w) s)))
     goes p l =
-        scan_step s at c w (omega arith) e ∙ ap (λ (x : Part). outer_scan x at (scan_in (at + w) [] (decode (drop (at + w) s))) (scan (at + w) (decode (drop (at + w) s)))) l
+        scan_step s at c w e ∙ ap (λ (x : Part). outer_scan x at (scan_in (at + w) [] (decode (drop (at + w) s))) (scan (at + w) (decode (drop (at + w) s)))) l
 
     pub token_space : m ≡ White → Ahead s at (at + w) × (scan at (decode (drop at s)) ≡ scan (at + w) (decode (drop (at + w) s)))
     token_space l = (step_ahead, goes space (by_space (part c) (sym r ∙ l)) ∙ scan_space _ _ _)
@@ -100,7 +100,7 @@ module _ (s : List ℕ) (at c w : ℕ) (h : at < length s) (u : is_utf8 (drop at
     pub token_mark : (k : TokenKind) → m ≡ Mark k → Marked s at k (at + w)
     token_mark k l =
         let p = plain_part (part c) k (sym r ∙ l) in
-        record { tok = p.tok; kind = p.kind; plain = p.plain; ahead = step_ahead; goes = scan_step s at c w (omega arith) e ∙ p.goes _ _ _ }
+        record { tok = p.tok; kind = p.kind; plain = p.plain; ahead = step_ahead; goes = scan_step s at c w e ∙ p.goes _ _ _ }
 
     pub token_never : m ≡ Bracket → (why : Refusal) → scan_in (at + w) [] (decode (drop (at + w) s)) ≡ halt why → scan at (decode (drop at s)) ≡ halt why
     token_never l why g = goes bracket (by_bracket (part c) (sym r ∙ l)) ∙ scan_bracket _ _ _ ∙ g

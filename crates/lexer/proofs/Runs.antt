@@ -8,13 +8,12 @@ use native.Mathlib.Numerals.{add-one}
 use lib.Dec.{eqb, ltb}
 use lib.ListN.{length, take, drop, get_or, replicate, length-drop, drop_of_length-le}
 use lib.Seq.{drop-cons, drop-drop}
-use borrow.Author.Tests.{eq-eqb, ne_eqb, eqb-true, eqb-false, ltb-false}
+use borrow.Author.Tests.{eq-eqb, ne_eqb, eqb-true, eqb-false, ltb-true, ltb-false}
 use Rattle.laws.specs.Tests.{agree, cond_both}
 use Rattle.utf8.specs.Utf8.{decode, encode, encode_char, step_at}
 use Rattle.utf8.specs.White.{is_white}
-use Rattle.utf8.specs.declared.Step.{Step}
-use Rattle.utf8.specs.declared.Step.TheVariants.{Char, Bad, End}
-use Rattle.utf8.proofs.Laws.{step_char, decode-at, decode_bad, step_end, decode_nil}
+use Rattle.utf8.specs.declared.Step.TheVariants.{Char, Bad}
+use Rattle.utf8.proofs.Laws.{decode-at, decode_bad}
 use Rattle.utf8.proofs.Ascii.{ascii-at}
 use Rattle.utf8.proofs.White.{white_visible}
 use Rattle.grammar.specs.Lex.{blank_char}
@@ -72,13 +71,13 @@ lead_none w = refl
 
 -- the run from `i` on, by what stands there
 module _ (w : Bool) (s : List ℕ) (i : ℕ) where
-  pub run_on : (c k : ℕ) → i ≤ length s → step_at s i ≡ Char c k → agree (is_white c) w ≡ true → run_end w s (i + k) ≡ run_end w s i
-  run_on c k h e t =
+  pub run_on : (c k : ℕ) → step_at s i ≡ Char c k → agree (is_white c) w ≡ true → run_end w s (i + k) ≡ run_end w s i
+  run_on c k e t =
       let n : length (encode (leading w (decode (drop i s)))) ≡ length (encode_char c) + length (encode (leading w (decode (drop (i + k) s)))) =
       ap (λ (x : List ℕ). length (encode (leading w x))) (decode-at s i c k e)
       ∙ ap (λ (x : List ℕ). length (encode x)) (lead_on w c (decode (drop (i + k) s)) t)
       ∙ size_cons c (leading w (decode (drop (i + k) s))) in
-      omega (arith, n, step_width s i c k h e)
+      omega (arith, n, step_width s i c k e)
 
   none : decode (drop i s) ≡ [] → i ≡ run_end w s i
   none e = omega (arith, ap (λ (x : List ℕ). length (encode (leading w x))) e, ap (λ (x : List ℕ). length (encode x)) (lead_none w))
@@ -88,32 +87,28 @@ module _ (w : Bool) (s : List ℕ) (i : ℕ) where
       let n = ap (λ (x : List ℕ). length (encode (leading w x))) (decode-at s i c k e) in
       omega (arith, n, ap (λ (x : List ℕ). length (encode x)) (lead_off w c (decode (drop (i + k) s)) t))
 
-  -- no character stands there
-  pub run_stop : ((c k : ℕ) → step_at s i ≡ Char c k → ⊥) → i ≡ run_end w s i
-  run_stop h = go (step_at s i) refl
-    where
-      go : (x : Step) → step_at s i ≡ x → i ≡ run_end w s i
-      go (Char c k) e = absurd (h c k e)
-      go Bad e = none (decode_bad (drop i s) e)
-      go End e = none (ap decode (step_end (drop i s) e) ∙ decode_nil)
+  pub run_bad : step_at s i ≡ Bad → i ≡ run_end w s i
+  run_bad e = none (decode_bad (drop i s) e)
 
   pub run_out : length s ≤ i → i ≡ run_end w s i
   run_out h = none (none_left s i h)
 
--- a character is within the text
-pub char_within : (s : List ℕ) (i c k : ℕ) → step_at s i ≡ Char c k → (i < length s) × (1 ≤ k) × (i + k ≤ length s)
-char_within s i c k e =
-    let d = step_char (drop i s) c k e in
-    (omega (arith, d.2, d.3, length-drop i s), d.2, omega (arith, d.2, d.3, length-drop i s))
+  -- a run that is not empty begins before the end
+  pub run_within : i < run_end w s i → i < length s
+  run_within h = go (ltb i (length s)) refl
+    where
+      go : (b : Bool) → ltb i (length s) ≡ b → i < length s
+      go true e = ltb-true i (length s) e
+      go false e = absurd (omega (arith, h, run_out (ltb-false i (length s) e)))
 
 -- the run from `i` on, by an ASCII byte there
 module _ (s : List ℕ) (i : ℕ) (h : i < length s) where
   pub space_on : get_or s i 0 ≡ blank_char → run_end true s (i + 1) ≡ run_end true s i
   unfolding is_white
-  space_on e = run_on true s i (get_or s i 0) 1 (omega arith) (ascii-at s i h (omega arith)) (ap (λ (x : ℕ). agree (is_white x) true) e)
+  space_on e = run_on true s i (get_or s i 0) 1 (ascii-at s i h (omega arith)) (ap (λ (x : ℕ). agree (is_white x) true) e)
 
   pub visible_on : 0x20 < get_or s i 0 → get_or s i 0 < 0x80 → run_end false s (i + 1) ≡ run_end false s i
-  visible_on l m = run_on false s i (get_or s i 0) 1 (omega arith) (ascii-at s i h m) (ap (λ (x : Bool). agree x false) (white_visible (get_or s i 0) l m))
+  visible_on l m = run_on false s i (get_or s i 0) 1 (ascii-at s i h m) (ap (λ (x : Bool). agree x false) (white_visible (get_or s i 0) l m))
 
   pub visible_off : 0x20 < get_or s i 0 → get_or s i 0 < 0x80 → i ≡ run_end true s i
   visible_off l m = run_off true s i (get_or s i 0) 1 (ascii-at s i h m) (ap (λ (x : Bool). agree x true) (white_visible (get_or s i 0) l m))
@@ -136,10 +131,6 @@ pub record Past (s : List ℕ) (at : ℕ) (rest : List ℕ) : Type 0 where
   pub is : rest ≡ drop place s
   pub same : run_end true s place ≡ run_end true s at
 
--- at first all from `at` on
-pub past_none : (s : List ℕ) (at : ℕ) (rest : List ℕ) → at ≤ length s → rest ≡ drop at s → Past s at rest
-past_none s at rest h e = record { place = at; room = h; is = e; same = refl }
-
 -- n spaces more
 pub past_more : (s : List ℕ) (at : ℕ) (rest : List ℕ) → Past s at rest → (n : ℕ) → n ≤ length rest → take n rest ≡ replicate n blank_char → Past s at (drop n rest)
 past_more s at rest p n h e =
@@ -150,13 +141,6 @@ past_more s at rest p n h e =
       is = ap (drop n) p.is ∙ drop-drop n p.place s;
       same = spaces_on s n p.place (omega (arith, p.room)) (sym (ap (take n) p.is) ∙ e) ∙ p.same;
     }
-
--- where that stands
-pub past_place : (s : List ℕ) (at : ℕ) (rest : List ℕ) → Past s at rest → (length rest ≤ length s) × (run_end true s (length s - length rest) ≡ run_end true s at)
-past_place s at rest p =
-    let l : length rest ≡ length s - p.place = ap length p.is ∙ length-drop p.place s in
-    let q : length s - length rest ≡ p.place = omega (arith, p.room) in
-    (omega arith, ap (run_end true s) q ∙ p.same)
 
 -- the two parts are the whole
 pub upto_from : (x : ℕ) (cs : List ℕ) → cs ≡ up_to x cs ++ from_on x cs

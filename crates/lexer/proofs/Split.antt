@@ -39,10 +39,10 @@ scalars_right [] b h = h
 scalars_right (c ∷ a) b h = scalars_right a b h.1
 
 -- the width of a step is that of its character
-pub step_width : (s : List ℕ) (at c w : ℕ) → at ≤ length s → step_at s at ≡ Char c w → length (encode_char c) ≡ w
-step_width s at c w h e =
+pub step_width : (s : List ℕ) (at c w : ℕ) → step_at s at ≡ Char c w → length (encode_char c) ≡ w
+step_width s at c w e =
     let f = (step_sound (drop at s) c w e).1 in
-    let d = char_at s at c w h e in
+    let d = char_at s at c w e in
     omega (arith, ap length f, length-append (encode_char c) (drop w (drop at s)), length-drop w (drop at s), length-drop at s, d.3)
 
 -- the characters a from `at` on, and b after them

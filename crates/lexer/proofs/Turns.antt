@@ -20,7 +20,10 @@ use Rattle.grammar.proofs.Bounds.{concat_append}
 use Rattle.fields.proofs.Appends.{on}
 use Rattle.lexer.specs.Tokens.{kind_of, kinds_of, deeper, depth, counted, limited, tokenized, counts_limited, placed}
 use Rattle.lexer.specs.Scan.{Scan, halt, meets, scan, scanned, places_in, outcome, scan_lex}
-use Rattle.lexer.specs.State.{Ahead, Marked, Cites, reading, State, Rests, Turned, Written, Ends}
+use Rattle.lexer.specs.State.{Begins, token_end, InText, Stored, Marked, Cites, reading, State, Written, Ends}
+use Rattle.lexer.specs.declared.Token.{Token}
+use Rattle.lexer.specs.declared.Token.TheVariants.{Space, Mark, Cite}
+use Rattle.utf8.specs.Limits.{text_limit}
 use Rattle.lexer.specs.declared.Count.{Count}
 use Rattle.lexer.specs.declared.TokenKind.{TokenKind}
 use Rattle.lexer.specs.declared.TokenKind.TheVariants.{Citation}
@@ -135,7 +138,7 @@ last_none : (at : ℕ) → (scanned (scan at []) ≡ []) × (places_in (scan at 
 unfolding scan scanned places_in outcome
 last_none at = (refl, refl, refl)
 
-pub state_start : (s : List ℕ) (kinds : List TokenKind) (places : List Place) → is_utf8 s ≡ true → State s kinds places (record { at = 0; tokens = 0; cites = 0; bytes = 0; depth = 0 })
+pub state_start : (s : List ℕ) (kinds : List TokenKind) (places : List Place) → is_utf8 s ≡ true → State s kinds places 0 (record { tokens = 0; cites = 0; bytes = 0; depth = 0 })
 unfolding texts concat kinds_of depth
 state_start s kinds places u = record {
   done = [];
@@ -157,21 +160,32 @@ state_start s kinds places u = record {
   held = sym (take-nil (length places));
 }
 
+pub token_sized : (s : List ℕ) (at : ℕ) (token : Token) → Begins s at (Ok token) → length s ≤ text_limit → InText token
+token_sized s at (Space q) b l = tt
+token_sized s at (Mark k q) b l = tt
+token_sized s at (Cite from end) b l = (b.order, omega (arith, b.ahead.room, l))
+
+-- from p on to q nothing was written but what was read
+pub record Rests (kinds₀ : List TokenKind) (places₀ : List Place) (kinds : List TokenKind) (places : List Place) (p q : Count) : Type 0 where
+  pub tokens : p.tokens ≤ q.tokens
+  pub cites : p.cites ≤ q.cites
+  pub kinds_rest : drop q.tokens kinds ≡ drop q.tokens kinds₀
+  pub places_rest : drop q.cites places ≡ drop q.cites places₀
+
 -- what one turn leaves as it was
 module _ (kinds : List TokenKind) (places : List Place) (p : Count) where
-  pub rests_space : (at depth : ℕ) → Rests kinds places kinds places p (record { at = at; tokens = p.tokens; cites = p.cites; bytes = p.bytes; depth = depth })
-  rests_space at depth = record { tokens = omega arith; cites = omega arith; kinds_rest = refl; places_rest = refl }
+  rests_space : Rests kinds places kinds places p p
+  rests_space = record { tokens = omega arith; cites = omega arith; kinds_rest = refl; places_rest = refl }
 
-  pub rests_mark : (k : TokenKind) (at depth : ℕ) → Rests kinds places (set kinds p.tokens k) places p (record { at = at; tokens = p.tokens + 1; cites = p.cites; bytes = p.bytes; depth = depth })
-  rests_mark k at depth = record { tokens = omega arith; cites = omega arith; kinds_rest = drop-set-lt (p.tokens + 1) kinds p.tokens k (omega arith); places_rest = refl }
+  rests_mark : (k : TokenKind) (depth : ℕ) → Rests kinds places (set kinds p.tokens k) places p (record { tokens = p.tokens + 1; cites = p.cites; bytes = p.bytes; depth = depth })
+  rests_mark k depth = record { tokens = omega arith; cites = omega arith; kinds_rest = drop-set-lt (p.tokens + 1) kinds p.tokens k (omega arith); places_rest = refl }
 
-  pub rests_cite : (k : TokenKind) (v : Place) (at bytes depth : ℕ) (places' : List Place) → places' ≡ set places p.cites v
-      → Rests kinds places (set kinds p.tokens k) places' p (record { at = at; tokens = p.tokens + 1; cites = p.cites + 1; bytes = bytes; depth = depth })
-  rests_cite k v at bytes depth places' e = record {
+  rests_cite : (k : TokenKind) (v : Place) (bytes depth : ℕ) → Rests kinds places (set kinds p.tokens k) (set places p.cites v) p (record { tokens = p.tokens + 1; cites = p.cites + 1; bytes = bytes; depth = depth })
+  rests_cite k v bytes depth = record {
     tokens = omega arith;
     cites = omega arith;
     kinds_rest = drop-set-lt (p.tokens + 1) kinds p.tokens k (omega arith);
-    places_rest = ap (drop (p.cites + 1)) e ∙ drop-set-lt (p.cites + 1) places p.cites v (omega arith);
+    places_rest = drop-set-lt (p.cites + 1) places p.cites v (omega arith);
   }
 
 -- what further turns leave as it was
@@ -180,31 +194,9 @@ pub rests_on : (kinds₀ : List TokenKind) (places₀ : List Place) (kinds : Lis
 rests_on kinds₀ places₀ kinds places kinds' places' p q r a b =
     (r.kinds_rest ∙ on p.tokens q.tokens kinds₀ kinds r.tokens a, r.places_rest ∙ on p.cites q.cites places₀ places r.cites b)
 
-module _ {s : List ℕ} {kinds : List TokenKind} {places : List Place} {p : Count} (h : State s kinds places p) where
-  pub state_space : (q : ℕ) → Ahead s p.at q → scan p.at (decode (drop p.at s)) ≡ scan q (decode (drop q s))
-      → State s kinds places (record { at = q; tokens = p.tokens; cites = p.cites; bytes = p.bytes; depth = p.depth })
-  state_space q a e = record {
-    done = h.done;
-    sites = h.sites;
-    room = a.room;
-    tokens_room = omega (arith, a.later, h.tokens_room);
-    cites-room = omega (arith, a.later, h.cites-room);
-    bytes-room = omega (arith, a.later, h.bytes-room);
-    tokens = h.tokens;
-    cites = h.cites;
-    spots = h.spots;
-    bytes = h.bytes;
-    deep = h.deep;
-    well = a.well;
-    goes = h.goes ∙ ap (λ x. h.done ++ scanned x) e;
-    stands = h.stands ∙ ap (λ x. h.sites ++ places_in x) e;
-    ends = h.ends ∙ ap (λ x. before h.done (outcome x)) e;
-    shown = h.shown;
-    held = h.held;
-  }
-
-  pub state_mark : (k : TokenKind) (q d : ℕ) → Marked s p.at k q → p.tokens < length kinds → d ≡ deeper p.depth k
-      → State s (set kinds p.tokens k) places (record { at = q; tokens = p.tokens + 1; cites = p.cites; bytes = p.bytes; depth = d })
+module _ {s : List ℕ} {kinds : List TokenKind} {places : List Place} {at : ℕ} {p : Count} (h : State s kinds places at p) where
+  state_mark : (k : TokenKind) (q d : ℕ) → Marked s at k q → p.tokens < length kinds → d ≡ deeper p.depth k
+      → State s (set kinds p.tokens k) places q (record { tokens = p.tokens + 1; cites = p.cites; bytes = p.bytes; depth = d })
   state_mark k q d m l r =
       let a = m.ahead in
       let e = texts_plain h.done m.tok m.plain in
@@ -221,9 +213,9 @@ module _ {s : List ℕ} {kinds : List TokenKind} {places : List Place} {p : Coun
         bytes = h.bytes ∙ ap (λ (x : List (List ℕ)). length (concat x)) (sym e);
         deep = r ∙ ap (λ (x : ℕ). deeper x k) h.deep ∙ ap (deeper (depth 0 h.done)) (sym m.kind) ∙ sym (depth_snoc 0 h.done m.tok);
         well = a.well;
-        goes = h.goes ∙ ap (λ x. h.done ++ scanned x) m.goes ∙ meets_tokens h.done p.at m.tok (scan q (decode (drop q s)));
-        stands = h.stands ∙ ap (λ x. h.sites ++ places_in x) m.goes ∙ ap (λ x. h.sites ++ x) (meets_plain p.at m.tok (scan q (decode (drop q s))) m.plain);
-        ends = h.ends ∙ ap (λ x. before h.done (outcome x)) m.goes ∙ meets-outcome h.done p.at m.tok (scan q (decode (drop q s)));
+        goes = h.goes ∙ ap (λ x. h.done ++ scanned x) m.goes ∙ meets_tokens h.done at m.tok (scan q (decode (drop q s)));
+        stands = h.stands ∙ ap (λ x. h.sites ++ places_in x) m.goes ∙ ap (λ x. h.sites ++ x) (meets_plain at m.tok (scan q (decode (drop q s))) m.plain);
+        ends = h.ends ∙ ap (λ x. before h.done (outcome x)) m.goes ∙ meets-outcome h.done at m.tok (scan q (decode (drop q s)));
         shown =
             grown kinds p.tokens k l
             ∙ ap (λ (x : List TokenKind). x ++ (k ∷ [])) h.shown
@@ -232,8 +224,8 @@ module _ {s : List ℕ} {kinds : List TokenKind} {places : List Place} {p : Coun
         held = h.held;
       }
 
-  state_cite : (from end : ℕ) (v : Place) → Cites s p.at from end → p.tokens < length kinds → v ≡ placed from (end - from)
-      → State s (set kinds p.tokens Citation) (set places p.cites v) (record { at = end + 1; tokens = p.tokens + 1; cites = p.cites + 1; bytes = p.bytes + (end - from); depth = p.depth })
+  state_cite : (from end : ℕ) (v : Place) → Cites s at from end → p.tokens < length kinds → v ≡ placed from (end - from)
+      → State s (set kinds p.tokens Citation) (set places p.cites v) (end + 1) (record { tokens = p.tokens + 1; cites = p.cites + 1; bytes = p.bytes + (end - from); depth = p.depth })
   unfolding kind_of
   state_cite from end v m l k =
       let a = m.ahead in
@@ -262,10 +254,33 @@ module _ {s : List ℕ} {kinds : List TokenKind} {places : List Place} {p : Coun
         held = held_on places p.cites v h.sites h.spots h.held;
       }
 
-  pub state_stored : (from end : ℕ) (v : Place) (places' : List Place) → places' ≡ set places p.cites v → Cites s p.at from end → p.tokens < length kinds → v ≡ placed from (end - from)
-      → State s (set kinds p.tokens Citation) places' (record { at = end + 1; tokens = p.tokens + 1; cites = p.cites + 1; bytes = p.bytes + (end - from); depth = p.depth })
-  state_stored from end v places' w m l k =
-      subst (λ (x : List Place). State s (set kinds p.tokens Citation) x (record { at = end + 1; tokens = p.tokens + 1; cites = p.cites + 1; bytes = p.bytes + (end - from); depth = p.depth })) (sym w) (state_cite from end v m l k)
+  state_space : (q : ℕ) → Begins s at (Ok (Space q)) → State s kinds places q p
+  state_space q b = record {
+    done = h.done;
+    sites = h.sites;
+    room = b.0.room;
+    tokens_room = omega (arith, b.0.later, h.tokens_room);
+    cites-room = omega (arith, b.0.later, h.cites-room);
+    bytes-room = omega (arith, b.0.later, h.bytes-room);
+    tokens = h.tokens;
+    cites = h.cites;
+    spots = h.spots;
+    bytes = h.bytes;
+    deep = h.deep;
+    well = b.0.well;
+    goes = h.goes ∙ ap (λ x. h.done ++ scanned x) b.1;
+    stands = h.stands ∙ ap (λ x. h.sites ++ places_in x) b.1;
+    ends = h.ends ∙ ap (λ x. before h.done (outcome x)) b.1;
+    shown = h.shown;
+    held = h.held;
+  }
+
+  pub state_more : (token : Token) → Begins s at (Ok token) → p.tokens < length kinds → (kinds' : List TokenKind) (places' : List Place) (q : Count) → Stored token kinds places kinds' places' p q
+      → State s kinds' places' (token_end token) q × Rests kinds places kinds' places' p q
+  state_more (Space end) b l kinds' places' q v = rw (v.0, v.1, v.2) (state_space end b, rests_space kinds places p)
+  state_more (Mark k end) b l kinds' places' q v = rw (v.0, v.1, v.2) (state_mark k end (deeper p.depth k) b l refl, rests_mark kinds places p k (deeper p.depth k))
+  state_more (Cite from end) b l kinds' places' q v =
+      rw (v.0, v.1, v.2) (state_cite from end (placed from (end - from)) b l refl, rests_cite kinds places p Citation (placed from (end - from)) (p.bytes + (end - from)) p.depth)
 
   -- what was written since lexing began
   module _ (kinds₀ : List TokenKind) (places₀ : List Place) (same : length places ≡ length places₀) (restk : drop p.tokens kinds ≡ drop p.tokens kinds₀) (restp : drop p.cites places ≡ drop p.cites places₀) where
@@ -293,31 +308,27 @@ module _ {s : List ℕ} {kinds : List TokenKind} {places : List Place} {p : Coun
         ∙ ap (λ x. x ++ drop p.cites places) (h.held ∙ ap (λ (n : ℕ). take n h.sites) same)
         ∙ ap (λ x. take (length places₀) h.sites ++ x) (restp ∙ sites_rest)
 
-    written : (r : Scan) → scan p.at (decode (drop p.at s)) ≡ r → scanned r ≡ [] → places_in r ≡ [] → Written s kinds₀ places₀ kinds places
+    written : (r : Scan) → scan at (decode (drop at s)) ≡ r → scanned r ≡ [] → places_in r ≡ [] → Written s kinds₀ places₀ kinds places
     written r e t q =
         let a : h.done ≡ scanned (reading s) = sym (h.goes ∙ ap (λ x. h.done ++ x) (ap scanned e ∙ t) ∙ append-nil h.done) in
         let b : h.sites ≡ places_in (reading s) = sym (h.stands ∙ ap (λ x. h.sites ++ x) (ap places_in e ∙ q) ∙ append-nil h.sites) in
         (kinds-over ∙ ap (λ x. over (kinds_of x) kinds₀) a, places_over ∙ ap (λ x. over (take (length places₀) x) places₀) b)
 
     -- lexing stops
-    state_off : (why : Refusal) → scan p.at (decode (drop p.at s)) ≡ halt why → Ends s kinds₀ places₀ kinds places (Err why)
+    pub state_off : (why : Refusal) → scan at (decode (drop at s)) ≡ halt why → Ends s kinds₀ places₀ kinds places (Err why)
     state_off why e =
         let n = halt_none why in
         (sym (scan_lex 0 (decode s)) ∙ h.ends ∙ ap (λ x. before h.done (outcome x)) e ∙ ap (before h.done) n.2 ∙ before_refused h.done why, written (halt why) e n.0 n.1)
 
-    pub state_halts : (why : Refusal) (kinds' : List TokenKind) (places' : List Place) → Turned s kinds places kinds' places' p (Err why) → Ends s kinds₀ places₀ kinds' places' (Err why)
-    state_halts why kinds' places' t =
-        subst (λ x. Ends s kinds₀ places₀ x places' (Err why)) (sym t.1) (subst (λ x. Ends s kinds₀ places₀ kinds x (Err why)) (sym t.2) (state_off why t.0))
-
     -- at the end of the text
-    pub state_on : length s ≤ p.at → Ends s kinds₀ places₀ kinds places (Ok p)
+    pub state_on : length s ≤ at → Ends s kinds₀ places₀ kinds places (Ok p)
     state_on l =
-        let n = last_none p.at in
-        (l, h, written (scan p.at []) (ap (scan p.at) (none_left s p.at l)) n.0 n.1)
+        let n = last_none at in
+        (subst (λ (x : ℕ). State s kinds places x p) (omega (arith, l, h.room)) h, written (scan at []) (ap (scan at) (none_left s at l)) n.0 n.1)
 
-  state_end : length s ≤ p.at → lex (decode s) ≡ Ok h.done
+  state_end : length s ≤ at → lex (decode s) ≡ Ok h.done
   state_end l =
-      sym (scan_lex 0 (decode s)) ∙ h.ends ∙ ap (λ (x : List ℕ). before h.done (outcome (scan p.at x))) (none_left s p.at l) ∙ ap (before h.done) (last_none p.at).2 ∙ before_end h.done
+      sym (scan_lex 0 (decode s)) ∙ h.ends ∙ ap (λ (x : List ℕ). before h.done (outcome (scan at x))) (none_left s at l) ∙ ap (before h.done) (last_none at).2 ∙ before_end h.done
 
 -- what `lex` answers and writes
 abbrev pub Answers : (s : List ℕ) (kinds₀ : List TokenKind) (places₀ : List Place) (kinds : List TokenKind) (places : List Place) → Result Lexed Refusal → Type 0
@@ -332,7 +343,7 @@ lex_off s kinds₀ places₀ kinds places why e =
 pub lex_on : (s : List ℕ) (kinds₀ : List TokenKind) (places₀ : List Place) (kinds : List TokenKind) (places : List Place) (p : Count) → Ends s kinds₀ places₀ kinds places (Ok p) → (r : Result Lexed Refusal) → r ≡ counts_limited p → Answers s kinds₀ places₀ kinds places r
 unfolding tokenized then
 lex_on s kinds₀ places₀ kinds places p g r e =
-    let h = g.1 in
-    let x : tokenized (decode s) ≡ limited h.done = rw (state_end h g.0) in
+    let h = g.0 in
+    let x : tokenized (decode s) ≡ limited h.done = rw (state_end h (omega arith)) in
     let c = counts_limited_lem p h.done h.tokens h.cites h.bytes h.deep in
-    (e ∙ c ∙ ap (map_ok counted) (sym x), g.2)
+    (e ∙ c ∙ ap (map_ok counted) (sym x), g.1)

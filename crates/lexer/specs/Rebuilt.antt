@@ -3,7 +3,7 @@ use Rattle.std.specs.Prelude.{ℕ, ◌≡◌, refl, List, [], ◌∷◌, get_or,
 use Rattle.std.proofs.Common.{ap}
 use Rattle.grammar.specs.Expr as expr
 use Rattle.grammar.specs.Lex.{Tok, cited, op, opening, closing, texts}
-use Rattle.lexer.specs.Tokens.{sign_kind, kind_of, kinds_of}
+use Rattle.lexer.specs.Tokens.{sign_token, kind_of, kinds_of}
 use Rattle.lexer.specs.declared.TokenKind.{TokenKind}
 use Rattle.lexer.specs.declared.TokenKind.TheVariants.{Citation, And, Or, Xor, Opening, Closing}
 
@@ -19,7 +19,7 @@ rebuilt (Closing ∷ ks) us = closing ∷ rebuilt ks us
 
 -- tokens are those of their kinds that cite their texts
 pub rebuilt_is : (ts : List Tok) → rebuilt (kinds_of ts) (texts ts) ≡ ts
-unfolding rebuilt kinds_of kind_of sign_kind texts
+unfolding rebuilt kinds_of kind_of sign_token texts
 rebuilt_is [] = refl
 rebuilt_is (cited u ∷ ts) = ap (λ (x : List Tok). cited u ∷ x) (rebuilt_is ts)
 rebuilt_is (op expr.And ∷ ts) = ap (λ (x : List Tok). op expr.And ∷ x) (rebuilt_is ts)

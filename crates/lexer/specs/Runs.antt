@@ -1,5 +1,5 @@
 -- Runs of characters: white space, words, the text of a citation. Assumes nothing.
-use Rattle.std.specs.Prelude.{◌≡◌, ℕ, ◌+◌, ◌^◌, ◌<◌, Bool, true, false, cond, List, [], ◌∷◌, eqb, length, drop}
+use Rattle.std.specs.Prelude.{◌≡◌, ℕ, ◌+◌, ◌^◌, ◌<◌, Bool, true, false, cond, List, [], ◌∷◌, eqb, length, drop, Option, Some, None}
 use Rattle.laws.specs.Tests.{agree}
 use Rattle.utf8.specs.Utf8.{decode, encode}
 use Rattle.utf8.specs.White.{is_white}
@@ -37,6 +37,11 @@ from_on x (c ∷ cs) = cond (eqb c x) (c ∷ cs) (from_on x cs)
 -- the first word of a text: the part after leading white space and before the next
 unfoldable pub first_word : List ℕ → Span
 first_word s = record { from = run_end true s 0; end = run_end false s (run_end true s 0) }
+
+-- what `Words` gives at a place, and the place after it: the part after white space and before the next; nothing where that is empty
+abbrev pub NextWord : List ℕ → ℕ → Option Span → ℕ → Type 0
+NextWord s at None next = run_end false s (run_end true s at) ≡ run_end true s at
+NextWord s at (Some word) next = (word.from ≡ run_end true s at) × (word.end ≡ run_end false s word.from) × (word.from < word.end) × (next ≡ word.end)
 
 -- what is written between n bytes of joined words and the next word
 abbrev pub gap : ℕ → List ℕ

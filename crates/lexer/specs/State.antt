@@ -1,17 +1,19 @@
 -- What the lexer's own functions say of the text that is left. Assumes nothing.
-use Rattle.std.specs.Prelude.{ℕ, ◌+◌, ◌-◌, ◌≤◌, ◌<◌, ◌≡◌, true, List, [], ◌∷◌, ◌++◌, length, take, drop, Result, Ok, Err}
+use Rattle.std.specs.Prelude.{ℕ, ◌+◌, ◌-◌, ◌≤◌, ◌<◌, ◌≡◌, true, List, [], ◌∷◌, ◌++◌, length, take, drop, set, Option, Some, None, Result, Ok, Err}
 use Rattle.refusal.specs.declared.Refusal.{Refusal}
 use Rattle.text.specs.Bytes.{over}
 use Rattle.utf8.specs.Utf8.{is_utf8, decode}
 use Rattle.grammar.specs.Expr.{concat}
 use Rattle.grammar.specs.Lex.{Tok, cited, lex, texts}
 use Rattle.grammar.specs.LexPrint.{before}
-use Rattle.lexer.specs.Tokens.{kind_of, kinds_of, depth}
+use Rattle.utf8.specs.Limits.{text_limit}
+use Rattle.lexer.specs.Tokens.{kind_of, kinds_of, deeper, depth, placed}
 use Rattle.lexer.specs.Scan.{Scan, halt, meets, scan, scan_in, scanned, places_in, outcome}
 use Rattle.lexer.specs.declared.Token.{Token}
 use Rattle.lexer.specs.declared.Token.TheVariants.{Space, Mark, Cite}
 use Rattle.lexer.specs.declared.Count.{Count}
 use Rattle.lexer.specs.declared.TokenKind.{TokenKind}
+use Rattle.lexer.specs.declared.TokenKind.TheVariants.{Citation}
 use Rattle.lexer.specs.declared.Place.{Place}
 
 -- q is a place after `at` from which the text goes on
@@ -53,41 +55,55 @@ Begins s at (Ok (Mark k q)) = Marked s at k q
 Begins s at (Ok (Cite from end)) = Cites s at from end
 Begins s at (Err why) = scan at (decode (drop at s)) ≡ halt why
 
+-- the place after a token or white space
+abbrev pub token_end : Token → ℕ
+token_end (Space q) = q
+token_end (Mark k q) = q
+token_end (Cite from end) = end + 1
+
+-- what `Tokens` gives at a place, and the place after it; a refusal is the last
+abbrev pub NextToken : List ℕ → ℕ → Option (Result Token Refusal) → ℕ → Type 0
+NextToken s at None next = length s ≤ at
+NextToken s at (Some (Ok token)) next = (at < length s) × Begins s at (Ok token) × (next ≡ token_end token)
+NextToken s at (Some (Err why)) next = Begins s at (Err why) × (next ≡ length s)
+
+-- a citation's text ends at or below a text's limit, after it begins
+abbrev pub InText : Token → Type 0
+InText (Space q) = Unit
+InText (Mark k q) = Unit
+InText (Cite from end) = (from ≤ end) × (end ≤ text_limit)
+
+-- what `store_token` says
+abbrev pub Stored : Token → (kinds₀ : List TokenKind) (places₀ : List Place) (kinds : List TokenKind) (places : List Place) → Count → Count → Type 0
+Stored (Space next) kinds₀ places₀ kinds places p q = (kinds ≡ kinds₀) × (places ≡ places₀) × (q ≡ p)
+Stored (Mark k next) kinds₀ places₀ kinds places p q =
+    (kinds ≡ set kinds₀ p.tokens k) × (places ≡ places₀) × (q ≡ record { tokens = p.tokens + 1; cites = p.cites; bytes = p.bytes; depth = deeper p.depth k })
+Stored (Cite from end) kinds₀ places₀ kinds places p q =
+    (kinds ≡ set kinds₀ p.tokens Citation) × (places ≡ set places₀ p.cites (placed from (end - from))) × (q ≡ record { tokens = p.tokens + 1; cites = p.cites + 1; bytes = p.bytes + (end - from); depth = p.depth })
+
 -- what a text is read as
 abbrev pub reading : List ℕ → Scan
 reading s = scan 0 (decode s)
 
--- the text up to `p.at` has been read, as the tokens `done` with the places `sites`
-pub record State (s : List ℕ) (kinds : List TokenKind) (places : List Place) (p : Count) : Type 0 where
+-- the text up to `at` has been read, as the tokens `done` with the places `sites`
+pub record State (s : List ℕ) (kinds : List TokenKind) (places : List Place) (at : ℕ) (p : Count) : Type 0 where
   pub done : List Tok
   pub sites : List Place
-  pub room : p.at ≤ length s
-  pub tokens_room : p.tokens ≤ p.at
-  pub cites-room : p.cites ≤ p.at
-  pub bytes-room : p.bytes ≤ p.at
+  pub room : at ≤ length s
+  pub tokens_room : p.tokens ≤ at
+  pub cites-room : p.cites ≤ at
+  pub bytes-room : p.bytes ≤ at
   pub tokens : p.tokens ≡ length done
   pub cites : p.cites ≡ length (texts done)
   pub spots : p.cites ≡ length sites
   pub bytes : p.bytes ≡ length (concat (texts done))
   pub deep : p.depth ≡ depth 0 done
-  pub well : is_utf8 (drop p.at s) ≡ true
-  pub goes : scanned (reading s) ≡ done ++ scanned (scan p.at (decode (drop p.at s)))
-  pub stands : places_in (reading s) ≡ sites ++ places_in (scan p.at (decode (drop p.at s)))
-  pub ends : outcome (reading s) ≡ before done (outcome (scan p.at (decode (drop p.at s))))
+  pub well : is_utf8 (drop at s) ≡ true
+  pub goes : scanned (reading s) ≡ done ++ scanned (scan at (decode (drop at s)))
+  pub stands : places_in (reading s) ≡ sites ++ places_in (scan at (decode (drop at s)))
+  pub ends : outcome (reading s) ≡ before done (outcome (scan at (decode (drop at s))))
   pub shown : take p.tokens kinds ≡ kinds_of done
   pub held : take p.cites places ≡ take (length places) sites
-
--- from p on to q nothing was written but what was read
-pub record Rests (kinds₀ : List TokenKind) (places₀ : List Place) (kinds : List TokenKind) (places : List Place) (p q : Count) : Type 0 where
-  pub tokens : p.tokens ≤ q.tokens
-  pub cites : p.cites ≤ q.cites
-  pub kinds_rest : drop q.tokens kinds ≡ drop q.tokens kinds₀
-  pub places_rest : drop q.cites places ≡ drop q.cites places₀
-
--- what `read_token` says
-abbrev pub Turned : (s : List ℕ) (kinds₀ : List TokenKind) (places₀ : List Place) (kinds : List TokenKind) (places : List Place) → Count → Result Count Refusal → Type 0
-Turned s kinds₀ places₀ kinds places p (Ok q) = (p.at < q.at) × State s kinds places q × Rests kinds₀ places₀ kinds places p q
-Turned s kinds₀ places₀ kinds places p (Err why) = (scan p.at (decode (drop p.at s)) ≡ halt why) × (kinds ≡ kinds₀) × (places ≡ places₀)
 
 -- the tokens in front of the leftmost refusal and their places were written, and nothing else
 abbrev pub Written : (s : List ℕ) (kinds₀ : List TokenKind) (places₀ : List Place) (kinds : List TokenKind) (places : List Place) → Type 0
@@ -95,5 +111,5 @@ Written s kinds₀ places₀ kinds places = (kinds ≡ over (kinds_of (scanned (
 
 -- what `lex_all` says
 abbrev pub Ends : (s : List ℕ) (kinds₀ : List TokenKind) (places₀ : List Place) (kinds : List TokenKind) (places : List Place) → Result Count Refusal → Type 0
-Ends s kinds₀ places₀ kinds places (Ok p) = (length s ≤ p.at) × State s kinds places p × Written s kinds₀ places₀ kinds places
+Ends s kinds₀ places₀ kinds places (Ok p) = State s kinds places (length s) p × Written s kinds₀ places₀ kinds places
 Ends s kinds₀ places₀ kinds places (Err why) = (lex (decode s) ≡ Err why) × Written s kinds₀ places₀ kinds places

@@ -16,15 +16,15 @@ use Rattle.lexer.specs.declared.Lexed.{Lexed}
 use Rattle.lexer.specs.declared.Place.{Place}
 
 -- an operator's kind
-unfoldable pub sign_kind : Op → TokenKind
-sign_kind expr.And = And
-sign_kind expr.Or = Or
-sign_kind expr.Xor = Xor
+unfoldable pub sign_token : Op → TokenKind
+sign_token expr.And = And
+sign_token expr.Or = Or
+sign_token expr.Xor = Xor
 
 -- a token's kind
 unfoldable pub kind_of : Tok → TokenKind
 kind_of (cited t) = Citation
-kind_of (op o) = sign_kind o
+kind_of (op o) = sign_token o
 kind_of opening = Opening
 kind_of closing = Closing
 
@@ -36,7 +36,7 @@ kinds_of (t ∷ ts) = kind_of t ∷ kinds_of ts
 -- what a character outside a citation is
 unfoldable pub meaning : Part → Meaning
 meaning bracket = Bracket
-meaning (sign o) = Mark (sign_kind o)
+meaning (sign o) = Mark (sign_token o)
 meaning left = Mark Opening
 meaning right = Mark Closing
 meaning space = White

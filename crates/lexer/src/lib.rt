@@ -3,6 +3,7 @@
 #![tactic(auto)]
 
 ghost use Rattle.std.specs.Prelude.{◌≡◌, Bool, true, false, ◌++◌, ◌+◌, ◌-◌, ◌≤◌, ◌<◌, length, take, drop, set, MatchResult};
+ghost use Rattle.std.specs.Iterator.{at_most};
 ghost use Rattle.refusal.specs.Result.{map_ok};
 ghost use Rattle.text.specs.Bytes.{over};
 ghost use Rattle.utf8.specs.Utf8.{is_utf8, decode, encode};
@@ -10,17 +11,17 @@ ghost use Rattle.utf8.specs.Limits.{text_limit};
 ghost use Rattle.grammar.specs.Lex.{cite_end, part};
 ghost use Rattle.grammar.specs.Status.{words, joined};
 ghost use Rattle.fields.specs.Appended.{Appended};
-ghost use Rattle.lexer.specs.Runs.{run_end, GoesOn, up_to, first_word, gap};
+ghost use Rattle.lexer.specs.Runs.{run_end, GoesOn, up_to, first_word, NextWord, gap};
 ghost use Rattle.lexer.specs.Tokens.{kinds_of, meaning, deeper, counted, tokenized, counts_limited, placed};
-ghost use Rattle.lexer.specs.Numbers.{numbered, kind_number};
+ghost use Rattle.lexer.specs.Numbers.{token_numbered, token_number};
 ghost use Rattle.lexer.specs.Admitted.{NotAdmitted};
 ghost use Rattle.lexer.specs.Scan.{scan, scanned, places_in};
-ghost use Rattle.lexer.specs.State.{Closes, Begins, State, Turned, Ends};
+ghost use Rattle.lexer.specs.State.{Closes, Begins, NextToken, InText, Stored, Ends};
 
 use fields::put_text;
 pub use grammar::{CITATION_LIMIT, CITED_LIMIT};
 use refusal::Refusal;
-use utf8::{Step, TEXT_LIMIT};
+use utf8::{Step, TEXT_LIMIT, Walker};
 
 // The kinds of tokens.
 #[derive(Clone, Copy, Debug, PartialEq, Eq)]
@@ -36,9 +37,9 @@ pub enum TokenKind {
 // For callers who hold bytes: the kind for which one stands. A citation and the operators have the numbers of their node rows, an opening parenthesis has 5,
 // and what is no kind closes.
 impl From<u8> for TokenKind {
-    ghost from_gives = { λ number kind. kind ≡ numbered number };
+    ghost from_gives = { λ number kind. kind ≡ token_numbered number };
 
-    #[tactic(auto, using(crate::specs::Numbers::numbered_one, crate::specs::Numbers::numbered_over), unfolding(crate::specs::Numbers::numbered))]
+    #[tactic(auto, using(crate::specs::Numbers::token_numbered_one, crate::specs::Numbers::token_numbered_over), unfolding(crate::specs::Numbers::token_numbered))]
     fn from(number: u8) -> TokenKind {
         match number {
             0 => TokenKind::Citation,
@@ -53,9 +54,9 @@ impl From<u8> for TokenKind {
 
 // The number that stands for a kind.
 impl From<TokenKind> for u8 {
-    ghost from_gives = { λ kind number. number ≡ kind_number kind };
+    ghost from_gives = { λ kind number. number ≡ token_number kind };
 
-    #[tactic(auto, unfolding(crate::specs::Numbers::kind_number))]
+    #[tactic(auto, unfolding(crate::specs::Numbers::token_number))]
     fn from(kind: TokenKind) -> u8 {
         match kind {
             TokenKind::Citation => 0,
@@ -120,10 +121,9 @@ enum Token {
     Cite { from: usize, end: usize },
 }
 
-// How far lexing is: the next byte's number; tokens, citations, the bytes in them, and open parentheses so far.
+// Tokens, citations, the bytes in them, and open parentheses so far.
 #[derive(Clone, Copy)]
 struct Count {
-    pub at: usize,
     pub tokens: usize,
     pub cites: usize,
     pub bytes: usize,
@@ -143,15 +143,15 @@ fn run_while<F: Fn(u32) -> bool>(text: &[u8], at: usize, on: F) -> usize
     requires { F.IsAlwaysCallable on }
     ensures { (white : Bool) → GoesOn white (F.post on) → result ≡ run_end white text.now at }
 {
-    // a loop: each step is as wide as its character
-    let mut i = at;
-    while let Step::Char { code, width } = utf8::step_at(text, i) {
+    for (place, code) in Walker::new(text, at) {
+        let Some(code) = code else {
+            return place;
+        };
         if !on(code) {
-            return i;
+            return place;
         }
-        i += width;
     }
-    i
+    at.max(text.len())
 }
 
 // The place after the white space from `at` on, where some byte stands: most often a visible ASCII one, and then it is `at`.
@@ -241,6 +241,7 @@ fn close_at(text: &[u8], at: usize) -> Result<usize, Refusal>
 }
 
 // What a character outside a citation is.
+#[tactic(auto, unfolding(crate::specs::Tokens::meaning, crate::specs::Tokens::sign_token, grammar::specs::Lex::part, grammar::specs::Lex::symbol))]
 fn part_of(c: u32) -> Meaning
     ensures { result ≡ meaning (part c) }
 {
@@ -311,38 +312,62 @@ fn store(places: &mut [Place], m: usize, place: Place)
     }
 }
 
-// One token, or white space. Kinds and places are parameters of their own: a struct around lent memory was tried in printer, and was
-// slower.
-fn read_token(
-    text: Text,
-    kinds: &mut [TokenKind],
-    places: &mut [Place],
-    p: Count,
-) -> Result<Count, Refusal>
-    requires { (length text.bytes.now ≤ length kinds.old) × (p.at < length text.bytes.now) × State text.bytes.now kinds.old places.old p }
-    ensures { Turned text.entry.bytes.now kinds.old places.old kinds.new places.new p result }
+// The tokens of a text from a byte on, white space among them; a refusal is the last.
+#[derive(Drop)]
+struct Tokens<'a> {
+    pub text: &'a [u8],
+    pub at: usize,
+}
+
+impl<'a> Iterator for Tokens<'a> {
+    type Item = Result<Token, Refusal>;
+
+    ghost can_next = { λ t. is_utf8 (drop t.at t.text.now) ≡ true };
+
+    ghost next_gives = { λ old given new. (new.text.now ≡ old.text.now) × NextToken old.text.now old.at given new.at };
+
+    ghost remaining = { λ t. at_most (length t.text.now - t.at) };
+
+    fn next(&mut self) -> Option<Result<Token, Refusal>> {
+        if self.text.len() <= self.at {
+            return None;
+        }
+        let token = token_at(self.text, self.at);
+        self.at = match token {
+            Ok(Token::Space(next)) => next,
+            Ok(Token::Mark { kind: _, next }) => next,
+            Ok(Token::Cite { from: _, end }) => end + 1,
+            Err(_) => self.text.len(),
+        };
+        Some(token)
+    }
+}
+
+// Stores a token, and nothing for white space; the counts with it. Kinds and places are parameters of their own: callers lend two buffers,
+// of which this fills both and no other function does.
+fn store_token(token: Token, kinds: &mut [TokenKind], places: &mut [Place], p: Count) -> Count
+    requires { (p.tokens < length kinds.old) × (p.cites ≤ text_limit) × (p.bytes ≤ text_limit) × InText token }
+    ensures { Stored token kinds.old places.old kinds.new places.new p result }
 {
-    match token_at(text.bytes, p.at)? {
-        Token::Space(next) => Ok(Count { at: next, ..p }),
-        Token::Mark { kind, next } => {
+    match token {
+        Token::Space(_) => p,
+        Token::Mark { kind, next: _ } => {
             kinds[p.tokens] = kind;
-            Ok(Count {
-                at: next,
+            Count {
                 tokens: p.tokens + 1,
                 depth: depth_after(p.depth, kind),
                 ..p
-            })
+            }
         }
         Token::Cite { from, end } => {
             kinds[p.tokens] = TokenKind::Citation;
             store(places, p.cites, place_of(from, end));
-            Ok(Count {
-                at: end + 1,
+            Count {
                 tokens: p.tokens + 1,
                 cites: p.cites + 1,
                 bytes: p.bytes + (end - from),
                 ..p
-            })
+            }
         }
     }
 }
@@ -353,20 +378,20 @@ fn lex_all(text: Text, kinds: &mut [TokenKind], places: &mut [Place]) -> Result<
     ensures { Ends text.entry.bytes.now kinds.old places.old kinds.new places.new result }
 {
     let mut p = Count {
-        at: 0,
         tokens: 0,
         cites: 0,
         bytes: 0,
         depth: 0,
     };
-    // No `for`: a step is as wide as its token, and an iterator of our own would be this step again, with this loop's invariant as its law.
-    while p.at < text.bytes.len() {
-        p = read_token(text, kinds, places, p)?;
+    let text = text.bytes;
+    for token in (Tokens { text, at: 0 }) {
+        p = store_token(token?, kinds, places, p);
     }
     Ok(p)
 }
 
 // The tests 6, 12 and 13.
+#[tactic(auto, unfolding(crate::specs::Tokens::counts_limited))]
 fn limited(p: Count) -> Result<Lexed, Refusal>
     ensures { result ≡ counts_limited p }
 {
@@ -397,12 +422,38 @@ pub fn lex(text: Text, kinds: &mut [TokenKind], places: &mut [Place]) -> Result<
 }
 
 // The first word of a text; an empty part at its end if it has none.
+#[tactic(auto, unfolding(crate::specs::Runs::first_word))]
 pub fn first_word(text: &[u8]) -> Span
     ensures { result ≡ first_word text.now }
 {
     let from = white_end(text, 0);
     let end = word_end(text, from);
     Span { from, end }
+}
+
+// The words of a text from a byte on: white space is passed, and then the word. It ends where no word stands, so that bad bytes end it too.
+#[derive(Drop)]
+struct Words<'a> {
+    pub text: &'a [u8],
+    pub at: usize,
+}
+
+impl<'a> Iterator for Words<'a> {
+    type Item = Span;
+
+    ghost next_gives = { λ old given new. (new.text.now ≡ old.text.now) × NextWord old.text.now old.at given new.at };
+
+    ghost remaining = { λ w. at_most (length w.text.now - w.at) };
+
+    fn next(&mut self) -> Option<Span> {
+        let from = white_end(self.text, self.at);
+        let end = word_end(self.text, from);
+        if end == from {
+            return None;
+        }
+        self.at = end;
+        Some(Span { from, end })
+    }
 }
 
 // A space after the `n` bytes of joined words, if there are any; how many bytes are then written.
@@ -423,14 +474,10 @@ pub fn join_words(text: &[u8], from: usize, out: &mut [u8]) -> usize
     ensures value { result ≡ length (encode (joined (words (decode (drop from text.now))))) }
     ensures out_after { out.new ≡ encode (joined (words (decode (drop from text.now)))) ++ drop result out.old }
 {
-    let mut at = white_end(text, from);
     let mut n = 0;
-    // No `for`: a step is as wide as a word and the white space after it, and an iterator of our own would be this step again, with this loop's invariant as its law.
-    while at < text.len() {
+    for word in (Words { text, at: from }) {
         let to = add_gap(out, n);
-        let end = word_end(text, at);
-        n = put_text(&text[at..end], out, to);
-        at = white_end(text, end);
+        n = put_text(&text[word.from..word.end], out, to);
     }
     n
 }

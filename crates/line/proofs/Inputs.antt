@@ -8,7 +8,7 @@ use native.Mathlib.Omega.{arith}
 use lib.Dec.{eqb, ltb}
 use lib.ListN.{length, get_or, take, drop, set, length-append, drop_of_length-le}
 use lib.Seq.{take-nil, length-take-le, take-suc-set, drop-cons}
-use borrow.Author.Tests.{lt-ltb, le-ltb, eq-eqb, ne_eqb, ltb-true, ltb-false}
+use borrow.Author.Tests.{lt-ltb, le-ltb, ltb-true, ltb-false}
 use Rattle.line.specs.Sizes.{kept_status, kept_answers, kept_value}
 use Rattle.line.specs.Lines.{line_feed, lines}
 use Rattle.line.specs.Input.{first_line, after_line, line_at, input_lines, Kept, no_input, longer, next_row, with_byte, fed, fed_all}
@@ -26,17 +26,6 @@ module _ (most b len : ℕ) (line : List ℕ) (size : length line ≡ most) wher
   pub longer_full : len ≤ most → most ≤ len → take len line ≡ longer most b (take len line)
   unfolding longer
   longer_full l h = rw (le-ltb (length (take len line)) most (omega (arith, length-take-le len line (omega arith))))
-
-module _ (b : ℕ) (h : Kept) where
-  -- a line feed
-  pub fed-line : b ≡ line_feed → record { row = next_row h.row; status = h.status; answers = h.answers; value = h.value } ≡ fed b h
-  unfolding fed
-  fed-line e = rw (eq-eqb b line_feed e)
-
-  -- any other byte
-  pub fed-byte : (b ≡ line_feed → ⊥) → with_byte b h ≡ fed b h
-  unfolding fed
-  fed-byte e = rw (ne_eqb b line_feed e)
 
 -- so many more of a line's bytes
 abbrev filled : ℕ → List ℕ → List ℕ → List ℕ

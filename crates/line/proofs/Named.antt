@@ -18,7 +18,7 @@ use Rattle.semantics.specs.Truth.{Counts, truth_with}
 use Rattle.semantics.specs.Violations.{violated, violated_of, violations_with, number_bytes}
 use Rattle.semantics.proofs.Sizes.{violated_few}
 use Rattle.fields.specs.Appended.{Appended}
-use Rattle.fields.proofs.Appends.{nothing, both, same}
+use Rattle.fields.proofs.Appends.{both, same}
 use Rattle.tree.specs.Walk.{text_at}
 use Rattle.line.specs.Sizes.{longest_named}
 use Rattle.line.specs.Lines.{named}
@@ -152,10 +152,6 @@ pub record Going (b list : List ℕ) (count at : ℕ) (base out : List ℕ) (lef
   pub kept : length out ≡ length base
   pub below : AllBelow (cites b) (numbers_from list left from)
   pub place : from + 2 * left ≤ length list
-
--- all
-pub going_begin : (b list : List ℕ) (count at : ℕ) (base : List ℕ) → 2 * count ≤ length list → AllBelow (cites b) (numbers_from list count 0) → Going b list count at base base count 0 at
-going_begin b list count at base l h = record { done = []; all = refl; written = nothing at base; kept = refl; below = h; place = omega (arith, l) }
 
 module _ {b list : List ℕ} {count at : ℕ} {base out : List ℕ} {left from w : ℕ} (s : Going b list count at base out left from w) where
   module _ (h : 0 < left) where

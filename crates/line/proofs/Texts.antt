@@ -3,21 +3,19 @@ use mathlib.Core.Path.{◌≡◌, refl, sym, ap, ◌∙◌, subst}
 use mathlib.Core.List.{List, [], ◌∷◌, ◌++◌}
 use Prim.Native.Nat.{ℕ, suc, ◌+◌, ◌/◌, ◌%◌, ◌≤◌, ◌<◌}
 use Prim.Native.String.{String}
-use native.Mathlib.Numerals.{add-one}
 use native.Mathlib.Omega.{arith}
-use lib.ListN.{length, get_or, take, set, length-take}
-use lib.Seq.{take-suc, take-suc-set, take_all}
+use Rattle.std.specs.Prelude.{map}
+use lib.ListN.{length, length-take}
 use borrow.Author.Tests.{ne_eqb, lt-ltb, le-ltb}
 use Rattle.utf8.specs.Utf8.{encode_char}
 use Rattle.grammar.specs.Quoted.{bytes}
 use Rattle.citation.specs.declared.Truth.{Truth}
 use Rattle.status.specs.declared.StatusKind.{StatusKind}
-use Rattle.status.specs.declared.StatusKind.TheVariants.{Muss, Soll, Kann, X, M, S, K}
 use Rattle.status.specs.Status.{word_of}
 use Rattle.fields.specs.Appended.{Appended}
 use Rattle.fields.proofs.Appends.{both, same}
-use Rattle.line.specs.Sizes.{longest_word, longest_truth, longest_number, longest_status_line}
-use Rattle.line.specs.Lines.{line_feed, answer_byte, answer_bytes, figure, figures, truth_name, line, five_lines, alone_lines, lines}
+use Rattle.line.specs.Sizes.{longest_truth, longest_number, longest_status_line}
+use Rattle.line.specs.Lines.{line_feed, answer_byte, answer_bytes, figure, figures, truth_name, line, five_lines, alone_lines}
 use Rattle.line.specs.Parts.{Within}
 
 -- the answer bytes of the five letters
@@ -40,26 +38,11 @@ unfolding answer_bytes
 answers_length [] = refl
 answers_length (c ∷ a) = ap suc (answers_length a)
 
-answers_snoc : (a : List ℕ) (c : ℕ) → answer_bytes (a ++ (c ∷ [])) ≡ answer_bytes a ++ (answer_byte c ∷ [])
+-- the answer bytes of all letters
+pub answers_mapped : (a : List ℕ) → map answer_byte a ≡ answer_bytes a
 unfolding answer_bytes
-answers_snoc [] c = refl
-answers_snoc (b ∷ a) c = ap (λ x. answer_byte b ∷ x) (answers_snoc a c)
-
--- no letter yet
-pub answers_begin : (a codes : List ℕ) → take 0 codes ≡ answer_bytes (take 0 a)
-unfolding answer_bytes
-answers_begin a codes = refl
-
--- one letter more
-pub answers_next : (a codes : List ℕ) (i x : ℕ) → i < length a → i < length codes → take i codes ≡ answer_bytes (take i a) → x ≡ answer_byte (get_or a i 0) → take (i + 1) (set codes i x) ≡ answer_bytes (take (i + 1) a)
-answers_next a codes i x h l e f =
-    rw add-one (take-suc-set codes i x l ∙ ap (λ y. y ++ (x ∷ [])) e ∙ ap (λ y. answer_bytes (take i a) ++ (y ∷ [])) f ∙ sym (answers_snoc (take i a) (get_or a i 0)) ∙ ap answer_bytes (sym (take-suc a i 0 h)))
-
--- all letters
-pub answers_done : (a codes : List ℕ) (i : ℕ) → length a ≤ i → i ≤ length a → take i codes ≡ answer_bytes (take i a) → take (length a) codes ≡ answer_bytes a
-answers_done a codes i h l e =
-    let same : length a ≡ i = omega arith in
-    ap (λ (x : ℕ). take x codes) same ∙ e ∙ ap answer_bytes (take_all i a h)
+answers_mapped [] = refl
+answers_mapped (c ∷ a) = ap (λ x. answer_byte c ∷ x) (answers_mapped a)
 
 module _ (n : ℕ) {at : ℕ} {k : List ℕ} where
   -- a number of one digit
@@ -107,23 +90,6 @@ same-figures n m {at} {p} {k} {l} e w = subst (λ (x : ℕ). Within longest_numb
 pub named-truth : (t u : Truth) {text : List ℕ} {at p : ℕ} {k l : List ℕ} → t ≡ u → truth_name u ≡ text → length text ≤ longest_truth → Appended text at k l p → Within longest_truth (truth_name t) at k l p
 named-truth t u e f h a = record { written = same (sym (ap truth_name e ∙ f)) a; short = omega (arith, a.ends) }
 
-word_short : (k : StatusKind) → length (word_of k) ≤ longest_word
-word_short Muss = omega arith
-word_short Soll = omega arith
-word_short Kann = omega arith
-word_short X = omega arith
-word_short M = omega arith
-word_short S = omega arith
-word_short K = omega arith
-
--- a status word is short
-pub word_room : (k : StatusKind) (text : List ℕ) → text ≡ word_of k → length text ≤ longest_word
-word_room k text e = omega (arith, ap length e, word_short k)
-
--- a status word was written
-pub named-word : (k : StatusKind) {text : List ℕ} {at p : ℕ} {l m : List ℕ} → text ≡ word_of k → Appended text at l m p → Within longest_word (word_of k) at l m p
-named-word k {text} e a = record { written = same e a; short = omega (arith, a.ends, word_room k text e) }
-
 -- a line: its name, what it says, a line feed
 pub lined : (name : String) (most : ℕ) {text said : List ℕ} {at p q r : ℕ} {k l m o : List ℕ} → bytes name ≡ text → Appended text at k l p → Within most said p l m q → Appended (line_feed ∷ []) q m o r
     → Within (length text + most + 1) (line name said) at k o r
@@ -154,10 +120,6 @@ four_lines = refl
 pub alone_written : (k : StatusKind) {text : List ℕ} {p q : ℕ} {l m o : List ℕ} → line "tree " (bytes "-") ++ (line "presence " (bytes "-") ++ (line "pakete " (bytes "-") ++ line "format " (bytes "-"))) ≡ text
     → Within longest_status_line (line "status " (word_of k)) 0 l m p → Appended text p m o q → Appended (alone_lines k) 0 l o q
 alone_written k {text} e a b = same (alone_rest k text (sym e)) (both a.written b)
-
--- the lines of the same three lines
-pub same_lines : {s t a b v w : List ℕ} → s ≡ t → a ≡ b → v ≡ w → lines s a v ≡ lines t b w
-same_lines {s} {t} {a} {b} {v} {w} e f g = ap (λ x. lines x a v) e ∙ ap (λ x. lines t x v) f ∙ ap (lines t b) g
 
 -- what was written from the first byte on fits in
 pub inside : {text : List ℕ} {q : ℕ} {old new : List ℕ} → Appended text 0 old new q → q ≤ length new

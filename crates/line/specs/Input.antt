@@ -1,5 +1,5 @@
 -- The three lines of an input, and what is kept of them byte by byte. Assumes nothing.
-use Rattle.std.specs.Prelude.{◌≡◌, List, [], ◌∷◌, ◌++◌, cond, ℕ, zero, suc, ◌+◌, ◌≤◌, eqb, ltb, length, take, drop}
+use Rattle.std.specs.Prelude.{List, [], ◌∷◌, ◌++◌, cond, ℕ, zero, suc, ◌+◌, eqb, ltb, length}
 use Rattle.line.specs.Sizes.{kept_status, kept_answers, kept_value}
 use Rattle.line.specs.Lines.{line_feed, lines}
 

@@ -10,11 +10,11 @@ use std::marker::Model;
 use tree::TREE_LIMIT;
 
 // What decides of the three lines: one byte more than is admitted, and one letter more than there can be citations.
-const STATUS_KEPT: usize = 4401;
+pub const STATUS_KEPT: usize = 4401;
 
-const ANSWERS_KEPT: usize = 257;
+pub const ANSWERS_KEPT: usize = 257;
 
-const VALUE_KEPT: usize = 1025;
+pub const VALUE_KEPT: usize = 1025;
 
 // The first bytes of a line, at most N.
 #[derive(Drop)]
@@ -45,6 +45,13 @@ impl<const N: usize> Line<N> {
         ensures { result.now ≡ self.now }
     {
         &self.bytes[..self.len]
+    }
+
+    // No bytes.
+    pub fn clear(&mut self)
+        ensures { self.new ≡ [] }
+    {
+        self.len = 0;
     }
 
     // One byte more, unless the line is full.

@@ -19,8 +19,8 @@ ghost use Rattle.line.specs.Sizes.{longest_word, longest_truth, longest_number, 
 ghost use Rattle.line.specs.Parts.{Within, numbers_from, AllBelow, Admitted};
 
 use citation::Truth;
-use fields::{get16, put_byte, put_text};
-pub use kept::{Input, Line};
+use fields::{get16, map_into, put_byte, put_text};
+pub use kept::{ANSWERS_KEPT, Input, Line, STATUS_KEPT, VALUE_KEPT};
 use packages::pakete;
 use printer::{PRINT_LIMIT, display};
 use reader::Status;
@@ -55,9 +55,7 @@ fn answer_bytes(answers: &[u8], codes: &mut [u8])
     requires { length answers.now ≤ length codes.old }
     ensures { take (length answers.now) codes.new ≡ answer_bytes answers.now }
 {
-    for (i, letter) in answers.iter().enumerate() {
-        codes[i] = answer_byte(*letter);
-    }
+    map_into(answers, codes, answer_byte)
 }
 
 fn digit(d: usize) -> u8
@@ -116,8 +114,8 @@ fn refused_line(why: Refusal, out: &mut [u8]) -> usize
 }
 
 // The lines of a report: each says another definition of another value, so they stay functions of their own; one law serves
-// all, and one function of the name would take what is said as a closure over the same buffer. Kind, tree and value are three parameters, since these functions take different parts of them; and a buffer may be longer
-// than a report, so its length is a clause and no array's.
+// all, and one function of the name would take what is said as a closure with buffer and place for parameters, no plainer than its two lines. Kind, tree and value are three parameters, since
+// most functions take one or two of them; buffer and place are two, as in crate fields, which says why; and callers lend any longer buffer, so its length is a clause and no array's.
 fn status_line(kind: StatusKind, out: &mut [u8], at: usize) -> usize
     requires { at + longest_status_line ≤ length out.old }
     ensures { Within longest_status_line (line "status " (word_of kind)) at out.old out.new result }
@@ -195,17 +193,24 @@ fn put_named(tree: Tree, list: &[u8], count: usize, out: &mut [u8], at: usize) -
     w
 }
 
-// The numbers of the violated citations, at the start of a scratch.
-fn list_violations(tree: Tree, value: &[u8], scratch: &mut [u8]) -> usize
-    requires { Admitted value.now × (longest_list ≤ length scratch.old) }
-    ensures { (result ≤ citation_limit) × (numbers_from scratch.new result 0 ≡ violated.violations value.now (tree_at tree.entry.bytes.now 0)) }
-{
-    violations(tree.bytes, value, scratch).unwrap_or(0)
+// A value that was admitted: short enough, and UTF-8.
+#[derive(Clone, Copy)]
+struct Value<'a> {
+    bytes: &'a [u8],
+    ghost admitted: { Admitted bytes.now },
 }
 
-fn format_line(truth: Truth, tree: Tree, value: &[u8], out: &mut [u8], at: usize) -> usize
-    requires { Admitted value.now × (at + longest_format_line ≤ length out.old) }
-    ensures { Appended (line "format " (format_said value.now truth (tree_at tree.entry.bytes.now 0))) at out.old out.new result }
+// The numbers of the violated citations, at the start of a scratch.
+fn list_violations(tree: Tree, value: Value, scratch: &mut [u8]) -> usize
+    requires { longest_list ≤ length scratch.old }
+    ensures { (result ≤ citation_limit) × (numbers_from scratch.new result 0 ≡ violated.violations value.entry.bytes.now (tree_at tree.entry.bytes.now 0)) }
+{
+    violations(tree.bytes, value.bytes, scratch).unwrap_or(0)
+}
+
+fn format_line(truth: Truth, tree: Tree, value: Value, out: &mut [u8], at: usize) -> usize
+    requires { at + longest_format_line ≤ length out.old }
+    ensures { Appended (line "format " (format_said value.entry.bytes.now truth (tree_at tree.entry.bytes.now 0))) at out.old out.new result }
 {
     let mut list = [0u8; LIST_SIZE];
     let n = list_violations(tree, value, &mut list);
@@ -228,13 +233,13 @@ fn alone_lines(kind: StatusKind, out: &mut [u8]) -> usize
 fn tree_lines(
     kind: StatusKind,
     tree: Tree,
-    value: &[u8],
+    value: Value,
     presence: Truth,
     format: Truth,
     out: &mut [u8],
 ) -> usize
-    requires { Admitted value.now × (longest_report ≤ length out.old) }
-    ensures { Appended (tree_lines kind (tree_at tree.entry.bytes.now 0) value.now presence format) 0 out.old out.new result }
+    requires { longest_report ≤ length out.old }
+    ensures { Appended (tree_lines kind (tree_at tree.entry.bytes.now 0) value.entry.bytes.now presence format) 0 out.old out.new result }
 {
     let a = status_line(kind, out, 0);
     let b = tree_line(tree, out, a);
@@ -250,7 +255,10 @@ fn judged_lines(kind: StatusKind, tree: Tree, codes: &[u8], value: &[u8], out: &
 {
     match eval_and_truth(tree.bytes, codes, value) {
         Err(why) => refused_line(why, out),
-        Ok((presence, format)) => { tree_lines(kind, tree, value, presence, format, out) }
+        Ok((presence, format)) => {
+            let value = Value { bytes: value };
+            tree_lines(kind, tree, value, presence, format, out)
+        }
     }
 }
 

@@ -15,6 +15,13 @@ pub struct Moment {
     pub minute: u8,
 }
 
+// A kind of day: the hours and minutes, in UTC, when it begins in summer time, and otherwise.
+#[derive(Clone, Copy)]
+pub struct Day<'a> {
+    pub summer: &'a [u8],
+    pub winter: &'a [u8],
+}
+
 // Two bytes as a number.
 #[tactic(auto, unfolding(crate::specs::Moments::field_of))]
 fn field(value: &[u8], from: usize) -> Option<u8>
@@ -79,11 +86,10 @@ pub fn moment_of(value: &[u8]) -> Option<Moment>
     )
 }
 
-// A day begins: the one text stands from byte 8 in summer time, the other otherwise. A date's parts and the two texts are
-// parameters of their own here, as in the definitions.
+// A day of this kind begins. The parts of the date and time go to calendar one by one, which says why.
 #[tactic(auto, unfolding(crate::specs::Moments::day_boundary))]
-pub fn day_boundary(value: &[u8], summer: &[u8], winter: &[u8]) -> bool
-    ensures { result ≡ day_boundary summer.now winter.now value.now }
+pub fn day_boundary(value: &[u8], day: Day) -> bool
+    ensures { result ≡ day_boundary day.entry.summer.now day.entry.winter.now value.now }
 {
     if !text::ends_with(value, b"+00") {
         return false;
@@ -98,7 +104,7 @@ pub fn day_boundary(value: &[u8], summer: &[u8], winter: &[u8]) -> bool
         moment.hour,
         moment.minute,
     ) {
-        return text::begins_at(value, 8, summer);
+        return text::begins_at(value, 8, day.summer);
     }
-    text::begins_at(value, 8, winter)
+    text::begins_at(value, 8, day.winter)
 }

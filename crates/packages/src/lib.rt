@@ -50,7 +50,7 @@ fn count_rows(tree: Tree) -> usize
     rows
 }
 
-// A number as eight bytes, little-endian; the answer is the place after them, here and below.
+// A number as eight bytes, little-endian; the answer is the place after them, here and below. Buffer and place are two parameters, as in crate fields, which says why.
 fn put64(out: &mut [u8], at: usize, v: u64) -> usize
     requires { at + 8 ≤ length out.old }
     ensures { Appended (bytes_up_to 8 v) at out.old out.new result }

@@ -11,7 +11,7 @@ use Rattle.grammar.specs.Expr.{Op, And, Or, Xor, Expr, Exprs, cite, Then, join, 
 use Rattle.grammar.specs.Lex.{Tok, cited, op, opening, closing, texts}
 use Rattle.grammar.specs.Parse.{same, gather, Side, lead, chain, whole, led, grow, Left, start, after, Opens, top, within, value, read, parse}
 use Rattle.grammar.specs.Rows.{many, node, rows, rows_of, span, spans}
-use Rattle.lexer.specs.Tokens.{sign_kind, kind_of, kinds_of}
+use Rattle.lexer.specs.Tokens.{sign_token, kind_of, kinds_of}
 use Rattle.parser.specs.Packed.{packed}
 use Rattle.parser.specs.Answer.{cites_in, rows_in, parsed_kinds}
 use Rattle.parser.specs.Tokens.{tok}
@@ -162,7 +162,7 @@ mutual
 -- tokens by their kinds
 
 tok_kind : (t : Tok) → tok (kind_of t) ≡ bare_tok t
-unfolding tok kind_of sign_kind
+unfolding tok kind_of sign_token
 tok_kind (cited t) = refl
 tok_kind (op And) = refl
 tok_kind (op Or) = refl
@@ -204,7 +204,7 @@ rows_by_kinds ts = ap rows_in (parsed_bare ts) ∙ rows_same (parse ts)
 
 -- as many citations as texts
 pub cites_of_kinds : (ts : List Tok) → cites_in (kinds_of ts) ≡ length (texts ts)
-unfolding cites_in kinds_of kind_of sign_kind texts
+unfolding cites_in kinds_of kind_of sign_token texts
 cites_of_kinds [] = refl
 cites_of_kinds (cited t ∷ ts) = ap suc (cites_of_kinds ts)
 cites_of_kinds (op And ∷ ts) = cites_of_kinds ts

@@ -8,7 +8,6 @@ use lib.ListN.{length, take, drop}
 use Rattle.refusal.specs.Result.{map_ok}
 use Rattle.refusal.specs.declared.Refusal.{Refusal}
 use Rattle.refusal.specs.declared.Refusal.TheVariants.{Parentheses}
-use Rattle.utf8.specs.Limits.{text_limit}
 use Rattle.grammar.specs.Expr.{Expr, none, ◌◂◌}
 use Rattle.grammar.specs.Parse.{parse}
 use Rattle.grammar.specs.Rows.{rows, rows_of, span, spans, rows_span}
@@ -17,7 +16,7 @@ use Rattle.grammar.specs.declared.NodeKind.TheVariants.{Citation}
 use Rattle.parser.specs.Packed.{packed}
 use Rattle.parser.specs.Answer.{cites_in, parsed_kinds, rows_over}
 use Rattle.parser.specs.Tokens.{from}
-use Rattle.parser.specs.States.{Held, Ready, ChainSays, Stand, Placed}
+use Rattle.parser.specs.States.{Held, ChainSays, Stand, Placed}
 use Rattle.lexer.specs.declared.TokenKind.{TokenKind}
 use Rattle.parser.specs.declared.Pos.{Pos}
 use Rattle.parser.specs.declared.Row.{Row}
@@ -28,9 +27,6 @@ use Rattle.parser.proofs.Orders.{many_one, rows_one, span_one, packed-length}
 -- where reading starts
 abbrev pub origin : Pos
 origin = record { at = 0; rows = 0; cites = 0; kind = Citation; kids = 0 }
-
-pub ready_first : (s : List TokenKind) (room : ℕ) → length s ≤ text_limit → cites_in s ≤ citation_limit → 2 * cites_in s ≤ room + 1 → Ready s room origin
-ready_first s room a b c = record { short = a; inside = omega arith; few = omega arith; space = omega arith }
 
 -- what `parse_tokens` says of kinds: its answer, and the rows before and after
 abbrev Says : (s : List TokenKind) → Result ℕ Refusal → (l new : List Row) → Type 0

@@ -24,7 +24,7 @@ use Rattle.lexer.specs.declared.TokenKind.{TokenKind}
 use Rattle.lexer.specs.declared.TokenKind.TheVariants.{Citation, Opening}
 use Rattle.parser.specs.declared.Pos.{Pos}
 use Rattle.parser.specs.declared.Row.{Row}
-use Rattle.parser.proofs.Steps.{ends-if, stops_if, atom_cite, atom_group, atom_unclosed, atom_inner, atom_missing, run-first, run_more, run_fails, run_ends, jux_fails, chain_fails, chain_lead, chain_led, chain_operand, operand_fails, chain_again, chain_other, chain_whole, same_self}
+use Rattle.parser.proofs.Steps.{ends-if, stops_if, atom_cite, atom_group, atom_unclosed, atom_inner, atom_missing, run-first, run_more, run_fails, run_ends, chain_lead, chain_led, chain_operand, chain_again, chain_other, chain_whole, same_self}
 use Rattle.parser.proofs.Ahead.{from_end, cite_here, open_here, no_operand, close_here, Sign, sign_here, op_inside, cites_cite, cites-any}
 use Rattle.parser.proofs.Orders.{many_append, many_one, span_one, count_one, root}
 use Rattle.parser.proofs.Holding.{front_less, front_set, held_cite, held_more, held_node, held_children}
@@ -33,14 +33,6 @@ use Rattle.parser.proofs.Holding.{front_less, front_set, held_cite, held_more, h
 
 module _ (s : List TokenKind) (p : Pos) where
   -- reading may go on
-  pub ready_on : (room now : ℕ) (q : Pos) (kids : ℕ) → Ready s room p → now ≡ room → Within s p q.at q.rows q.cites kids → Ready s now q
-  ready_on room now q kids r e w = record {
-    short = r.short;
-    inside = w.inside;
-    few = omega (arith, r.few, w.left);
-    space = omega (arith, r.space, w.left, w.room);
-  }
-
   pub ready_inner : (room : ℕ) → Ready s room p → p.at < length s → Ready s room (past p p.kind p.rows p.kids)
   ready_inner room r h = record {
     short = r.short;
@@ -204,9 +196,6 @@ gather_more (more f none) e h = refl
 gather_more (more f (more g run)) e h = refl
 
 module _ (s : List TokenKind) (p : Pos) where
-  pub jux_passes : (old new : List Row) (why : Refusal) → AtomSays s p old new (Err why) → JuxSays s p old new (Err why)
-  jux_passes old new why g = jux_fails g
-
   pub run_starts : (old new : List Row) (q : Pos) → AtomSays s p old new (Ok q) → Running s p new q 1 × Front p.rows old new
   unfolding many
   run_starts old new q g =
@@ -344,9 +333,6 @@ own_cites (Then es) h = refl
 own_cites (join o es) h = refl
 
 module _ (s : List TokenKind) (p : Pos) where
-  pub chain_passes : (old new : List Row) (why : Refusal) → JuxSays s p old new (Err why) → ChainSays s p old new (Err why)
-  chain_passes old new why g = chain_fails g
-
   pub chain_alone : (old new : List Row) (q : Pos) → JuxSays s p old new (Ok q) → None ≡ op_ahead (from s q.at) → ChainSays s p old new (Ok q)
   chain_alone old new q g z = (g.0, chain_lead g.1 (stops_if (from s q.at) g.1.ends z), g.2, g.3)
 
@@ -423,9 +409,6 @@ module _ (s : List TokenKind) (p : Pos) where
   chain_starts old new q g k is r h = (led-before new q g.0 g.1 g.2 k is r h, g.3)
 
   module _ (work : List Row) (q : Pos) (b : Before s p work q) where
-    pub chain_breaks : (old new : List Row) (why : Refusal) → JuxSays s q work new (Err why) → ChainSays s p old new (Err why)
-    chain_breaks old new why g = operand_fails b.goes g
-
     pub chain_goes : (new : List Row) (n : Pos) → JuxSays s q work new (Ok n)
         → After s p new (record { at = n.at; rows = n.rows; cites = n.cites; kind = q.kind; kids = q.kids + 1 }) × Front p.rows work new
     chain_goes new n g =

@@ -2,19 +2,22 @@
 
 #![tactic(auto)]
 
-ghost use Rattle.std.specs.Prelude.{◌≡◌, ◌+◌, ◌*◌, ◌≤◌, ◌<◌, length};
+ghost use Rattle.std.specs.Prelude.{◌≡◌, ◌+◌, ◌*◌, ◌≤◌, ◌<◌, length, map};
 ghost use Rattle.refusal.specs.Result.{map_ok};
 ghost use Rattle.utf8.specs.Limits.{text_limit};
 ghost use Rattle.grammar.specs.Rows.{span};
+ghost use Rattle.lexer.specs.Numbers.{token_numbered};
 ghost use Rattle.grammar.specs.Reading.{citation_limit};
 ghost use Rattle.parser.specs.Packed.{pack, child_count};
 ghost use Rattle.parser.specs.Answer.{cites_in, parsed_kinds, rows_over};
 ghost use Rattle.parser.specs.Tokens.{from, op_ahead, operand_ahead};
 ghost use Rattle.parser.specs.States.{Ready, AtomSays, JuxSays, ChainSays, noded, past, noded_rows, Led, Grown, Stand, Placed};
 
+use fields::map_into;
 use grammar::NodeKind;
 use lexer::TokenKind;
 use refusal::Refusal;
+use utf8::TEXT_LIMIT;
 
 // A place in the tokens, the rows written and the citations met; of what was read last, its kind and number of operands.
 #[derive(Clone, Copy)]
@@ -132,8 +135,8 @@ fn past_token(q: Pos) -> Pos
     Pos { at: q.at + 1, ..q }
 }
 
-// A citation, or a group in parentheses. Tokens, rows and place are parameters of their own here and below: a struct around lent
-// memory keeps the place in memory too, which was tried for writing (crate fields) and was slower.
+// A citation, or a group in parentheses. Tokens, rows and place are parameters of their own here and below: tokens are only read and rows only written, and the place goes by value from
+// one function to the next, in the answer, so that a struct of the three would be made anew for each call.
 #[cycle(parse)]
 fn parse_atom(toks: &[TokenKind], work: &mut [Row], p: Pos) -> Result<Pos, Refusal>
     requires { Ready toks.now (length work.old) p }
@@ -172,7 +175,7 @@ fn parse_juxtaposition(toks: &[TokenKind], work: &mut [Row], p: Pos) -> Result<P
 {
     let mut q = parse_atom(toks, work, p)?;
     let mut kids = 1;
-    // No `for`: a step is as wide as an operand, which it reads.
+    // No `for`: a step reads an operand by recursion and writes its rows; an iterator would lend the rows on and be this step again.
     while operand_at(toks, q.at) {
         q = parse_atom(toks, work, q)?;
         kids += 1;
@@ -199,7 +202,7 @@ fn parse_chain(toks: &[TokenKind], work: &mut [Row], p: Pos) -> Result<Pos, Refu
         return Ok(lead);
     };
     let mut q = led(lead, op);
-    // No `for`: a step is as wide as an operand and what follows it, which it reads.
+    // No `for`, as above.
     loop {
         let next = parse_juxtaposition(toks, work, q)?;
         let chain = Pos {
@@ -252,4 +255,15 @@ pub fn parse_tokens(
     }
     place(work, q.rows, 1, rows, q.rows);
     Ok(q.rows)
+}
+
+// The same for callers who hold the kinds as bytes: every byte stands for one.
+pub fn parse_bytes(toks: &[u8], work: &mut [Row], rows: &mut [Row]) -> Result<usize, Refusal>
+    requires { (length toks.now ≤ text_limit) × (cites_in (map token_numbered toks.now) ≤ citation_limit) × (2 * cites_in (map token_numbered toks.now) ≤ length work.old + 1) × (2 * cites_in (map token_numbered toks.now) ≤ length rows.old + 1) }
+    ensures result_value { result ≡ map_ok span (parsed_kinds (map token_numbered toks.now)) }
+    ensures rows_after { rows.new ≡ rows_over (parsed_kinds (map token_numbered toks.now)) rows.old }
+{
+    let mut kinds = [TokenKind::Closing; TEXT_LIMIT];
+    map_into(toks, &mut kinds, |byte| TokenKind::from(byte));
+    parse_tokens(&kinds[..toks.len()], work, rows)
 }

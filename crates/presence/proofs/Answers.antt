@@ -1,40 +1,25 @@
 -- Answer bytes as an oracle, and what `eval` answers. Assumes nothing.
 use Rattle.std.specs.Prelude.{Err}
-use mathlib.Core.Path.{◌≡◌, refl, sym, ap, ◌∙◌}
-use mathlib.Core.List.{List, [], ◌∷◌}
+use mathlib.Core.Path.{◌≡◌, sym, ap, ◌∙◌}
+use mathlib.Core.List.{List}
 use mathlib.Core.Bool.{true, false}
-use Prim.Native.Nat.{ℕ, zero, suc, ◌≤◌, ◌<◌}
+use Prim.Native.Nat.{ℕ, ◌≤◌, ◌<◌}
 use native.Mathlib.Omega.{arith}
 use lib.Dec.{eqb, leb}
-use lib.ListN.{length, get_or}
+use lib.ListN.{length}
 use borrow.Author.Tests.{ne_eqb, eq-eqb, eqb-true}
 use Rattle.laws.specs.Tests.{and_both}
 use Rattle.text.specs.Bytes.{all}
 use Rattle.refusal.specs.Result.{then}
-use Rattle.refusal.specs.declared.Refusal.TheVariants.{FailedAnswer, NotATree, WrongAnswers}
+use Rattle.refusal.specs.declared.Refusal.TheVariants.{NotATree, WrongAnswers}
 use Rattle.grammar.specs.Expr.{count}
 use Rattle.grammar.proofs.Sizes.{few-nodes}
 use Rattle.grammar.specs.Bytes.{nodes, cites, is_tree, tree_at}
 use Rattle.tree.specs.Walk.{first_at}
 use Rattle.tree.proofs.Walks.{root, no-tree}
-use Rattle.semantics.specs.Presence.{failed, presence, answered, oracle_of, answers_fit}
+use Rattle.semantics.specs.Presence.{failed, presence, oracle_of, answers_fit}
 use Rattle.semantics.specs.Answers.{presence_by, eval_answer}
 use Rattle.grammar.specs.Reading.{node_limit}
-
-get_d_any : (l : List ℕ) (n d d' : ℕ) → n < length l → get_or l n d ≡ get_or l n d'
-get_d_any [] n d d' h = absurd (omega arith)
-get_d_any (x ∷ l) zero d d' h = refl
-get_d_any (x ∷ l) (suc n) d d' h = get_d_any l n d d' (omega arith)
-
--- the byte at a citation's number answers for it
-pub answered-at : (answers : List ℕ) (n x : ℕ) → n < length answers → get_or answers n 0 ≡ x → answered x ≡ oracle_of answers n
-answered-at answers n x h e = ap answered (sym e ∙ get_d_any answers n 0 failed h)
-
--- from 4 on
-pub answered-failed : (x : ℕ) → 4 ≤ x → Err FailedAnswer ≡ answered x
-unfolding answered
-answered-failed x h =
-    rw (ne_eqb x 0 (λ q. omega (arith, q, h)), ne_eqb x 1 (λ q. omega (arith, q, h)), ne_eqb x 2 (λ q. omega (arith, q, h)), ne_eqb x 3 (λ q. omega (arith, q, h)))
 
 -- another count than that of the citations
 pub fit_count : (b answers : List ℕ) → is_tree b ≡ true → (length answers ≡ cites b → ⊥) → false ≡ answers_fit (tree_at b 0) answers

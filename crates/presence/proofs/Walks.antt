@@ -6,8 +6,7 @@ use mathlib.Core.Bool.{Bool, true, false, ◌&&◌, ◌||◌, or-false, or-true,
 use Prim.Native.Nat.{ℕ, zero, suc, ◌+◌, ◌-◌, ◌≤◌, ◌<◌}
 use native.Mathlib.Omega.{arith}
 use lib.Dec.{eqb}
-use lib.ListN.{length, get_or, set, length-set}
-use lib.Seq.{get_or-set_same, get_or-set_other}
+use lib.ListN.{length, get_or}
 use borrow.Author.Tests.{eqb-true, eqb-false}
 use Rattle.refusal.specs.declared.Refusal.{Refusal}
 use Rattle.refusal.specs.declared.Refusal.TheVariants.{ChoiceOverNeutral}
@@ -103,33 +102,6 @@ unfolding citations_of
 marking_ends b row left child mark s h =
     s.says ∙ ap mark_of (sym (s.whole ∙ ap (λ x. s.done ++ citations_of x) (firsts_end left (forest_at b child) h) ∙ append-nil s.done))
 
--- no row is marked yet
-pub marked_none : (b : List ℕ) (marks : List Mark) (n : ℕ) → nodes b ≤ length marks → n ≡ nodes b → Marked b n marks
-marked_none b marks n h e = record { room = h; says = λ i p q. absurd (omega arith) }
-
--- the marked rows, by another number for the first
-pub marked_on : (b : List ℕ) (marks : List Mark) (from to : ℕ) → Marked b from marks → from ≤ to → Marked b to marks
-marked_on b marks from to k h = record { room = k.room; says = λ i p q. k.says i (omega (arith, p, h)) q }
-
--- every row is marked
-pub marked_all : (b : List ℕ) (marks : List Mark) (from : ℕ) → Marked b from marks → from ≤ 0 → Marked b 0 marks
-marked_all b marks from k h = marked_on b marks from 0 k h
-
--- one row more
-pub marked_more : (b : List ℕ) (marks : List Mark) (row : ℕ) (m : Mark) → Marked b (row + 1) marks → row < nodes b → m ≡ mark_of (citations (tree_at b row)) → Marked b row (set marks row m)
-marked_more b marks row m k l e = record {
-  room = rw (length-set marks row m) k.room;
-  says = λ i p q. by i p q (eqb i row) refl;
-}
-  where
-    by : (i : ℕ) → row ≤ i → i < nodes b → (t : Bool) → eqb i row ≡ t → get_or (set marks row m) i Dropped ≡ mark_of (citations (tree_at b i))
-    by i p q true t =
-        let same : row ≡ i = sym (eqb-true i row t) in
-        subst (λ (x : ℕ). get_or (set marks row m) x Dropped ≡ mark_of (citations (tree_at b x))) same (get_or-set_same marks row m Dropped (omega (arith, k.room)) ∙ e)
-    by i p q false t =
-        let no : (i ≡ row → ⊥) = eqb-false i row t in
-        get_or-set_other marks row i m Dropped no ∙ k.says i (omega (arith, no)) q
-
 -- a citation's row is no choice's
 pub no_choice : (k : NodeKind) → k ≡ Citation → choosing k ≡ true → ⊥
 no_choice k e h = false≢true (sym (ap choosing e) ∙ h)
@@ -162,10 +134,6 @@ among_met b row (suc n) k l ek h = among_more b n ∙ by (eqb row n) refl (λ p.
     by false t f =
         let no : (row ≡ n → ⊥) = eqb-false row n t in
         ap (λ x. choosing (node_kind (tree_at b n)) || x) (f (omega (arith, no, l))) ∙ or-true (choosing (node_kind (tree_at b n)))
-
--- without a choice no row need be marked
-pub ready_none : (b : List ℕ) (marks : List Mark) → nodes b ≤ length marks → choice_among b (nodes b) ≡ false → Ready b marks
-ready_none b marks l h = record { room = l; marked = λ q. absurd (false≢true (sym h ∙ q)) }
 
 -- at a choice's row the rows are marked
 pub ready_marked : (b : List ℕ) (marks : List Mark) (row : ℕ) (kind : NodeKind) → Ready b marks → row < nodes b → kind ≡ node_kind (tree_at b row) → choosing kind ≡ true → Marked b 0 marks

@@ -172,6 +172,7 @@ pub fn answers_fit(tree: Tree, answers: &[u8]) -> bool
 }
 
 // The answer of a citation. No `TryFrom`: an answer over 3 is presence's own refusal.
+#[tactic(auto, unfolding(semantics::specs::Presence::answered))]
 fn answer_at(answers: &[u8], number: usize) -> Result<Truth, Refusal>
     requires { number < length answers.now }
     ensures { result ≡ oracle_of answers.now number }
@@ -227,16 +228,6 @@ fn has_choice(tree: Tree) -> bool
         }
     }
     false
-}
-
-// Marks the rows if one of them is a choice's; without a choice no mark is looked at.
-fn mark_choices(tree: Tree, marks: &mut [Mark])
-    requires { nodes tree.bytes.now ≤ length marks.old }
-    ensures { Ready tree.entry.bytes.now marks.new }
-{
-    if has_choice(tree) {
-        mark_rows(tree, marks);
-    }
 }
 
 // A node of this kind drops an operand with this mark.
@@ -315,12 +306,14 @@ impl Evaluation<'_> {
     }
 }
 
-// Marks the rows where that is needed, and evaluates the tree.
+// Evaluates the tree; its rows are marked first if one of them is a choice's, since else no mark is looked at.
 fn eval_marked(tree: Tree, answers: &[u8], marks: &mut [Mark]) -> Result<Truth, Refusal>
     requires { (answers_fit (tree_at tree.bytes.now 0) answers.now ≡ true) × (nodes tree.bytes.now ≤ length marks.old) }
     ensures { result ≡ presence_by answers.now (tree_at tree.entry.bytes.now 0) }
 {
-    mark_choices(tree, marks);
+    if has_choice(tree) {
+        mark_rows(tree, marks);
+    }
     let evaluation = Evaluation {
         tree,
         answers,

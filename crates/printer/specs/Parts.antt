@@ -1,5 +1,5 @@
 -- The parts of a print, by the kinds in the rows. Assumes nothing.
-use Rattle.std.specs.Prelude.{List, [], Bool, true, false, cond, ℕ}
+use Rattle.std.specs.Prelude.{List, [], ◌∷◌, Bool, true, false, cond, ℕ}
 use Rattle.grammar.specs.Expr as expr
 use Rattle.grammar.specs.Print.{in_bytes}
 use Rattle.grammar.specs.declared.NodeKind.{NodeKind}
@@ -25,6 +25,10 @@ is_join Then = false
 is_join And = true
 is_join Or = true
 is_join Xor = true
+
+-- a parenthesis, where an operand of a kind stands in parentheses
+abbrev pub beside : (paren : ℕ) → NodeKind → List ℕ
+beside paren k = cond (is_join k) (paren ∷ []) []
 
 -- what opens an operand of a kind
 abbrev pub left_of : NodeKind → List ℕ

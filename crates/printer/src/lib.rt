@@ -8,7 +8,7 @@ ghost use Rattle.grammar.specs.Print.{in_bytes, printed};
 ghost use Rattle.grammar.specs.Bytes.{nodes, cites, tree_at};
 ghost use Rattle.grammar.specs.Outcome.{answer_of, written_of, display_answer};
 ghost use Rattle.tree.specs.Walk.{text_at};
-ghost use Rattle.printer.specs.Parts.{separator_after, is_join, left_of, right_of};
+ghost use Rattle.printer.specs.Parts.{separator_after, is_join, beside};
 
 use fields::{put_byte, put_text};
 use grammar::NodeKind;
@@ -18,7 +18,8 @@ use tree::Tree;
 // The longest print, in bytes.
 pub const PRINT_LIMIT: usize = 4343;
 
-// What stands between two operands of a node; nothing stands before the first.
+// What stands between two operands of a node; nothing stands before the first, a fact of the place which the loop knows. Buffer and place are
+// two parameters, as in crate fields, which says why.
 fn put_separator(kind: NodeKind, first: bool, out: &mut [u8], at: usize) -> usize
     requires { at + length (separator_after first kind) ≤ length out.old }
     ensures { Appended (separator_after first kind) at out.old out.new result }
@@ -42,24 +43,13 @@ fn is_join(kind: NodeKind) -> bool
     matches!(kind, NodeKind::And | NodeKind::Or | NodeKind::Xor)
 }
 
-// What stands before an operand of a kind.
-fn put_left(kind: NodeKind, out: &mut [u8], at: usize) -> usize
-    requires { at + length (left_of kind) ≤ length out.old }
-    ensures { Appended (left_of kind) at out.old out.new result }
+// A parenthesis beside an operand of a kind, if it stands in parentheses.
+fn put_paren(kind: NodeKind, paren: u8, out: &mut [u8], at: usize) -> usize
+    requires { at + length (beside paren kind) ≤ length out.old }
+    ensures { Appended (beside paren kind) at out.old out.new result }
 {
     if is_join(kind) {
-        return put_byte(out, at, b'(');
-    }
-    at
-}
-
-// What stands after it.
-fn put_right(kind: NodeKind, out: &mut [u8], at: usize) -> usize
-    requires { at + length (right_of kind) ≤ length out.old }
-    ensures { Appended (right_of kind) at out.old out.new result }
-{
-    if is_join(kind) {
-        return put_byte(out, at, b')');
+        return put_byte(out, at, paren);
     }
     at
 }
@@ -89,9 +79,9 @@ fn print_row(tree: Tree, row: usize, out: &mut [u8], at: usize) -> usize
     for child in tree.children(row) {
         let inner = tree.kind_at(child);
         w = put_separator(kind, first, out, w);
-        w = put_left(inner, out, w);
+        w = put_paren(inner, b'(', out, w);
         w = print_row(tree, child, out, w);
-        w = put_right(inner, out, w);
+        w = put_paren(inner, b')', out, w);
         first = false;
     }
     w

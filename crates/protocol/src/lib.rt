@@ -76,7 +76,7 @@ pub fn piece(line: &[u8], number: usize) -> &[u8]
     line.split(|b| *b == b' ').nth(number).unwrap_or(&[])
 }
 
-// Writes s as a field at a place of out, and answers the place behind it.
+// Writes s as a field at a place of out, and answers the place behind it. Buffer and place are two parameters, as in crate fields, which says why.
 pub fn put_hex(out: &mut [u8], at: usize, s: &[u8]) -> usize
     requires { at + (2 * length s.now + 1) ≤ length out.old }
     ensures upper_bound { result ≤ at + (2 * length s.now + 1) }

@@ -31,7 +31,7 @@ mutual
   knowns n (more e es) = known_append (rows n e) (rows_of (n + count e) es) (known n e) (knowns (n + count e) es)
 
 back : (rs : List Row) → Known rs → unpacked (packed rs) ≡ rs
-unfolding unpacked packed row_of
+unfolding packed row_of
 back [] h = refl
 back (row k m z ∷ rs) h = ap₂ (λ (a : ℕ) (x : List Row). row a m z ∷ x) h.0 (back rs h.1)
 

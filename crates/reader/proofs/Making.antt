@@ -39,77 +39,76 @@ not_lexed s why a =
     let q : tokenized (decode s) ≡ Err why = told_refused (tokenized (decode s)) why a in
     sym (tokenized_parsed (decode s)) ∙ rw q
 
-module _ (s : List ℕ) (kinds : List TokenKind) (places : List Place) (k p w r : ℕ) (room : Room (length s) k p w r) (isk : length kinds ≡ k) (isp : length places ≡ p) (n m b : ℕ) where
+record Was (x : Result Expr Refusal) (nodes : ℕ) : Type 0 where
+  pub tree : Expr
+  pub is : x ≡ Ok tree
+  pub many : nodes ≡ span tree
+
+was : (x : Result Expr Refusal) (nodes : ℕ) → Ok nodes ≡ map_ok span x → Was x nodes
+unfolding map_ok
+was (Ok x) nodes h = record { tree = x; is = refl; many = cc }
+was (Err j) nodes h = absurd (err≢ok (sym h))
+
+module _ (s : List ℕ) {kinds : List TokenKind} {places : List Place} {k p w r : ℕ} (room : Room (length s) k p w r) (isk : length kinds ≡ k) (isp : length places ≡ p)
+    (u : is_utf8 s ≡ true) (kinds₀ : List TokenKind) (places₀ : List Place) (same : length places ≡ length places₀) {n m b : ℕ}
+    (said : turns.Answers s kinds₀ places₀ kinds places (Ok (record { tokens = n; cites = m; bytes = b }))) where
   -- what `lex` told
-  pub told_counts : is_utf8 s ≡ true → (kinds₀ : List TokenKind) (places₀ : List Place) → length places ≡ length places₀ → turns.Answers s kinds₀ places₀ kinds places (Ok (record { tokens = n; cites = m; bytes = b })) → Told s kinds places n m b
-  told_counts u kinds₀ places₀ same a =
-      told s kinds₀ places₀ kinds places n m b u same (λ x y. let z = room.cites m x (omega arith) in omega arith)
-      a
+  pub told_counts : Told s kinds places n m b
+  told_counts = told s kinds₀ places₀ kinds places n m b u same (λ x y. let z = room.cites m x (omega arith) in omega arith) said
 
-  module _ (t : Told s kinds places n m b) where
-    cites_are : cites_in (take n kinds) ≡ m
-    cites_are = ap cites_in t.shown ∙ cites_of_kinds t.toks ∙ sym t.cites
+  cites_are : cites_in (take n kinds) ≡ m
+  cites_are = ap cites_in told_counts.shown ∙ cites_of_kinds told_counts.toks ∙ sym told_counts.cites
 
-    within : m ≤ k
-    within = omega (arith, t.fewer, t.room)
+  within : m ≤ k
+  within = omega (arith, told_counts.fewer, told_counts.room)
 
-    -- the scratch is large enough to parse
-    pub parse-room : (length (take n kinds) ≤ text_limit) × (cites_in (take n kinds) ≤ citation_limit) × (2 * cites_in (take n kinds) ≤ w + 1) × (2 * cites_in (take n kinds) ≤ r + 1)
-    parse-room =
-        let a = room.works m t.most within in
-        let c = room.nodes m t.most within in
-        (omega (arith, length-take n kinds, room.short, t.room), omega (arith, cites_are, t.most), omega (arith, cites_are, a), omega (arith, cites_are, c))
+  -- the scratch is large enough to parse
+  pub parse-room : (length (take n kinds) ≤ text_limit) × (cites_in (take n kinds) ≤ citation_limit) × (2 * cites_in (take n kinds) ≤ w + 1) × (2 * cites_in (take n kinds) ≤ r + 1)
+  parse-room =
+      let a = room.works m told_counts.most within in
+      let c = room.nodes m told_counts.most within in
+      (omega (arith, length-take n kinds, room.short, told_counts.room), omega (arith, cites_are, told_counts.most), omega (arith, cites_are, a), omega (arith, cites_are, c))
 
-    read_by : expression (decode s) ≡ parse t.toks
-    unfolding then
-    read_by = sym (tokenized_parsed (decode s)) ∙ ap (λ x. then x parse) t.is
+  read_by : expression (decode s) ≡ parse told_counts.toks
+  unfolding then
+  read_by = sym (tokenized_parsed (decode s)) ∙ ap (λ x. then x parse) told_counts.is
 
-    said_of : map_ok span (parsed_kinds (take n kinds)) ≡ map_ok span (parse t.toks)
-    said_of = ap (λ x. map_ok span (parsed_kinds x)) t.shown ∙ said_by_kinds t.toks
+  said_of : map_ok span (parsed_kinds (take n kinds)) ≡ map_ok span (parse told_counts.toks)
+  said_of = ap (λ x. map_ok span (parsed_kinds x)) told_counts.shown ∙ said_by_kinds told_counts.toks
 
-    rows_of : rows_in (parsed_kinds (take n kinds)) ≡ rows_in (parse t.toks)
-    rows_of = ap (λ x. rows_in (parsed_kinds x)) t.shown ∙ rows_by_kinds t.toks
+  rows_of : rows_in (parsed_kinds (take n kinds)) ≡ rows_in (parse told_counts.toks)
+  rows_of = ap (λ x. rows_in (parsed_kinds x)) told_counts.shown ∙ rows_by_kinds told_counts.toks
 
-    -- the tokens are no expression
-    pub not_parsed : (why : Refusal) → Err why ≡ map_ok span (parsed_kinds (take n kinds)) → expression (decode s) ≡ Err why
-    unfolding map_ok
-    not_parsed why a = read_by ∙ go (parse t.toks) (a ∙ said_of)
-      where
-        go : (x : Result Expr Refusal) → Err why ≡ map_ok span x → x ≡ Err why
-        go (Ok x) h = absurd (err≢ok h)
-        go (Err j) h = cc
+  -- the tokens are no expression
+  pub not_parsed : (why : Refusal) → Err why ≡ map_ok span (parsed_kinds (take n kinds)) → expression (decode s) ≡ Err why
+  unfolding map_ok
+  not_parsed why a = read_by ∙ go (parse told_counts.toks) (a ∙ said_of)
+    where
+      go : (x : Result Expr Refusal) → Err why ≡ map_ok span x → x ≡ Err why
+      go (Ok x) h = absurd (err≢ok h)
+      go (Err j) h = cc
 
-    record Was (x : Result Expr Refusal) (nodes : ℕ) : Type 0 where
-      pub tree : Expr
-      pub is : x ≡ Ok tree
-      pub many : nodes ≡ span tree
-
-    was : (x : Result Expr Refusal) (nodes : ℕ) → Ok nodes ≡ map_ok span x → Was x nodes
-    unfolding map_ok
-    was (Ok x) nodes h = record { tree = x; is = refl; many = cc }
-    was (Err j) nodes h = absurd (err≢ok (sym h))
-
-    -- the tree of the text
-    pub stands : is_utf8 s ≡ true → (old held : List Row) (nodes : ℕ) → Ok nodes ≡ map_ok span (parsed_kinds (take n kinds))
-        → held ≡ rows_over (parsed_kinds (take n kinds)) old → Stands s places held nodes m b
-    stands u old held nodes a h =
-        let g = was (parse t.toks) nodes (a ∙ said_of) in
-        let x = g.tree in
-        let is : expression (decode s) ≡ Ok x = read_by ∙ g.is in
-        let c : citations x ≡ texts t.toks = parse-cites t.toks x g.is in
-        let size : length (packed (rows 0 x)) ≡ nodes = packed-length (rows 0 x) ∙ rows_span 0 x ∙ sym g.many in
-        let rowed : take nodes held ≡ packed (rows 0 x) =
-        ap (take nodes) (h ∙ ap (λ l. l ++ drop (length l) old) (rows_of ∙ ap rows_in g.is)) ∙ take_at (packed (rows 0 x)) _ nodes size in
-        let z = room.cites m t.most within in
-        record {
-          tree = x;
-          is = is;
-          fits = (expression_given (decode s) (utf8_sound s u).0 x is).1;
-          nodes = g.many;
-          cites = t.cites ∙ ap length (sym c);
-          bytes = t.bytes ∙ ap (λ y. length (concat y)) (sym c);
-          rowed = rowed;
-          cited = t.held ∙ sym c;
-          rows_room = omega (arith, simp length-take at (ap length rowed), size);
-          cites_room = omega arith;
-        }
+  -- the tree of the text
+  pub stands : (old held : List Row) (nodes : ℕ) → Ok nodes ≡ map_ok span (parsed_kinds (take n kinds))
+      → held ≡ rows_over (parsed_kinds (take n kinds)) old → Stands s places held nodes m b
+  stands old held nodes e h =
+      let g = was (parse told_counts.toks) nodes (e ∙ said_of) in
+      let x = g.tree in
+      let is : expression (decode s) ≡ Ok x = read_by ∙ g.is in
+      let c : citations x ≡ texts told_counts.toks = parse-cites told_counts.toks x g.is in
+      let size : length (packed (rows 0 x)) ≡ nodes = packed-length (rows 0 x) ∙ rows_span 0 x ∙ sym g.many in
+      let rowed : take nodes held ≡ packed (rows 0 x) =
+      ap (take nodes) (h ∙ ap (λ l. l ++ drop (length l) old) (rows_of ∙ ap rows_in g.is)) ∙ take_at (packed (rows 0 x)) _ nodes size in
+      let z = room.cites m told_counts.most within in
+      record {
+        tree = x;
+        is = is;
+        fits = (expression_given (decode s) (utf8_sound s u).0 x is).1;
+        nodes = g.many;
+        cites = told_counts.cites ∙ ap length (sym c);
+        bytes = told_counts.bytes ∙ ap (λ y. length (concat y)) (sym c);
+        rowed = rowed;
+        cited = told_counts.held ∙ sym c;
+        rows_room = omega (arith, simp length-take at (ap length rowed), size);
+        cites_room = omega arith;
+      }

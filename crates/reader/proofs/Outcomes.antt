@@ -13,7 +13,7 @@ use Rattle.refusal.specs.declared.Refusal.TheVariants.{NoRoom}
 use Rattle.utf8.specs.Utf8.{is_utf8, decode}
 use Rattle.utf8.specs.Limits.{text_limit, admitted}
 use Rattle.utf8.proofs.Limits.{fits, admitted_refused}
-use Rattle.grammar.specs.Expr.{Expr, concat}
+use Rattle.grammar.specs.Expr.{Expr}
 use Rattle.grammar.specs.Rows.{rows}
 use Rattle.grammar.specs.Bytes.{bytes_of}
 use Rattle.grammar.specs.Bytes as bytes
@@ -55,10 +55,6 @@ module _ (s : List ℕ) (places : List Place) (held : List Row) (n c t : ℕ) (m
   -- it is small
   pub small : (n ≤ node_limit) × (c ≤ citation_limit) × (t ≤ cited_limit)
   small = (omega (arith, few-nodes e m.fits, m.nodes), omega (arith, m.fits.few, m.cites), omega (arith, m.fits.small, m.bytes))
-
-  -- their bytes
-  pub cuts_size : t ≡ length (concat (cuts s (take c places)))
-  cuts_size = m.bytes ∙ ap (λ y. length (concat y)) (sym m.cited)
 
   rows_are : unpacked (take n held) ≡ rows 0 e
   rows_are = ap unpacked m.rowed ∙ rows_back 0 e

@@ -70,7 +70,8 @@ impl<const TOKENS: usize, const CITES: usize, const NODES: usize> Scratch<TOKENS
         }
     }
 
-    // The node rows of a text, and the places of its citations.
+    // The node rows of a text, and the places of its citations. That the text fits stands in clauses, here and below: the sizes are const parameters, of which Rattle computes none from another,
+    // and a scratch that held the text would say in as many clauses that the text stays.
     fn make(&mut self, text: Text) -> Result<Sizes, Refusal>
         requires { Room (length text.bytes.now) TOKENS CITES NODES NODES }
         ensures made { Made text.entry.bytes.now self.new.places self.new.rows result }

@@ -5,10 +5,6 @@ use Rattle.std.specs.Prelude.{ℕ, ◌≤◌, List, length}
 abbrev pub room : ℕ
 room = 65600
 
--- it is no longer than the longest line
-abbrev pub Line : List ℕ → Type 0
-Line line = length line ≤ 65536
-
 -- it is no longer than the byte string of the longest field
 abbrev pub Fits : List ℕ → Type 0
 Fits s = length s ≤ 32768

@@ -32,9 +32,8 @@
 
 #![tactic(auto)]
 
-ghost use Rattle.std.specs.Prelude.{◌≡◌, ◌+◌, ◌≤◌};
-ghost use Rattle.replay.specs.Rooms.{room};
-
+use answers::Answers;
+use line::Line;
 use requests::{Fields, respond};
 use std::io::{Read, Write};
 
@@ -60,63 +59,33 @@ const OUT: usize = 131200;
 // What is held between two reads: the present line, room for its fields, and the answers that wait to be written.
 #[derive(Drop)]
 struct Exchange {
-    line: [u8; HELD],
-    len: usize,
+    line: Line<HELD>,
     fields: Fields,
-    out: [u8; OUT],
-    waiting: usize,
-    ghost held: { len ≤ 65537 },
-    ghost waits: { waiting ≤ 131200 },
+    answers: Answers,
 }
 
 impl Exchange {
     fn new() -> Exchange {
         Exchange {
-            line: [0; HELD],
-            len: 0,
+            line: Line::new(),
             fields: Fields::new(),
-            out: [0; OUT],
-            waiting: 0,
-        }
-    }
-
-    // Writes what waits.
-    fn flush<W: Write>(&mut self, to: &mut W)
-        ensures { self.new.waiting ≡ 0 }
-    {
-        console::write_all(to, &self.out[..self.waiting]);
-        self.waiting = 0;
-    }
-
-    // Writes what waits where there is no room for an answer behind it.
-    fn make_room<W: Write>(&mut self, to: &mut W)
-        ensures { self.new.waiting + room ≤ 131200 }
-    {
-        if OUT - self.waiting < ROOM {
-            self.flush(to);
+            answers: Answers::new(),
         }
     }
 
     // Answers the line that is held.
     fn end_line<W: Write>(&mut self, to: &mut W) {
-        self.make_room(to);
-        let from = self.waiting;
-        let n = respond(
-            &self.line[..self.len],
-            &mut self.fields,
-            self.out[from..].first_chunk_mut().unwrap(),
-        );
-        self.waiting = from + n;
-        self.len = 0;
+        respond(self.line.as_slice(), &mut self.fields, &mut self.answers);
+        self.answers.end_line(to);
+        self.line.clear();
     }
 
     // One byte more. Of a line that is too long the first bytes are held.
     fn feed<W: Write>(&mut self, b: u8, to: &mut W) {
         if b == b'\n' {
             self.end_line(to);
-        } else if self.len < HELD {
-            self.line[self.len] = b;
-            self.len += 1;
+        } else {
+            self.line.push(b);
         }
     }
 
@@ -125,14 +94,14 @@ impl Exchange {
         for b in input {
             self.feed(*b, to);
         }
-        self.flush(to);
+        self.answers.flush(to);
     }
 
     // The end of the input ends its last line too.
     fn end<W: Write>(&mut self, to: &mut W) {
-        if self.len > 0 {
+        if !self.line.as_slice().is_empty() {
             self.end_line(to);
-            self.flush(to);
+            self.answers.flush(to);
         }
     }
 }

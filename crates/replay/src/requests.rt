@@ -1,10 +1,6 @@
 // The requests: which function a line asks, with how many fields. A field that holds a lent buffer is the last.
-ghost use Rattle.std.specs.Prelude.{◌≤◌, IfSome};
-ghost use Rattle.replay.specs.Rooms.{room, Line};
-
-use super::answers::{Lent, Said};
-use super::field::Field;
-use super::{LINE, ROOM, answers};
+use super::answers::{Answers, Lent, Said};
+use super::field::{Field, Request};
 use citation::{ConditionKind, Paket};
 use reader::{Expr, Status};
 use refusal::Refusal;
@@ -59,23 +55,23 @@ fn with_lent(word: &[u8], s: &[u8], buf: &mut [u8]) -> Option<Result<Lent, Refus
 }
 
 // The answer to a request of one field.
-fn answer_one(word: &[u8], s: &Field, out: &mut [u8; ROOM]) -> Option<usize>
-    ensures { IfSome result (λ n. n ≤ room) }
-{
+fn answer_one(word: &[u8], s: &Field, out: &mut Answers) -> Option<()> {
     if matches!(word, b"cited") {
-        return Some(answers::texts(s, out));
+        out.texts(s);
+        return Some(());
     }
-    Some(answers::answer(out, with_one(word, s.bytes())?, s))
+    out.answer(with_one(word, s.bytes())?, s);
+    Some(())
 }
 
 // The answer to a request of two fields.
-fn answer_two(word: &[u8], s: &[u8], buf: &mut Field, out: &mut [u8; ROOM]) -> Option<usize>
-    ensures { IfSome result (λ n. n ≤ room) }
-{
+fn answer_two(word: &[u8], s: &[u8], buf: &mut Field, out: &mut Answers) -> Option<()> {
     if let Some(said) = with_lent(word, s, &mut buf.room[0..buf.len]) {
-        return Some(answers::answer_lent(out, said, buf));
+        out.answer_lent(said, buf);
+        return Some(());
     }
-    Some(answers::answer(out, with_two(word, s, buf.bytes())?, buf))
+    out.answer(with_two(word, s, buf.bytes())?, buf);
+    Some(())
 }
 
 // The fields of a line: a request has three at most.
@@ -95,30 +91,21 @@ impl Fields {
         }
     }
 
-    fn answer_one(&mut self, line: &[u8], out: &mut [u8; ROOM]) -> Option<usize>
-        requires { Line line.now }
-        ensures { IfSome result (λ n. n ≤ room) }
-    {
-        self.first.read(line, 1)?;
-        answer_one(protocol::piece(line, 0), &self.first, out)
+    fn answer_one(&mut self, request: Request, out: &mut Answers) -> Option<()> {
+        request.read(1, &mut self.first)?;
+        answer_one(request.word(), &self.first, out)
     }
 
-    fn answer_two(&mut self, line: &[u8], out: &mut [u8; ROOM]) -> Option<usize>
-        requires { Line line.now }
-        ensures { IfSome result (λ n. n ≤ room) }
-    {
+    fn answer_two(&mut self, request: Request, out: &mut Answers) -> Option<()> {
         let Fields { first, second, .. } = self;
-        first.read(line, 1)?;
-        second.read(line, 2)?;
-        answer_two(protocol::piece(line, 0), first.bytes(), second, out)
+        request.read(1, first)?;
+        request.read(2, second)?;
+        answer_two(request.word(), first.bytes(), second, out)
     }
 
     // The one request of two fields and a lent buffer.
-    fn answer_three(&mut self, line: &[u8], out: &mut [u8; ROOM]) -> Option<usize>
-        requires { Line line.now }
-        ensures { IfSome result (λ n. n ≤ room) }
-    {
-        if !matches!(protocol::piece(line, 0), b"violations") {
+    fn answer_three(&mut self, request: Request, out: &mut Answers) -> Option<()> {
+        if !matches!(request.word(), b"violations") {
             return None;
         }
         let Fields {
@@ -126,30 +113,30 @@ impl Fields {
             second,
             third,
         } = self;
-        third.read(line, 3)?;
-        first.read(line, 1)?;
-        second.read(line, 2)?;
+        request.read(3, third)?;
+        request.read(1, first)?;
+        request.read(2, second)?;
         let buf = &mut third.room[0..third.len];
         let said = done(verdicts::violations(first.bytes(), second.bytes(), buf));
-        Some(answers::answer_lent(out, said, third))
+        out.answer_lent(said, third);
+        Some(())
     }
 }
 
-// The answer to a line, at the start of out.
-pub fn respond(line: &[u8], fields: &mut Fields, out: &mut [u8; ROOM]) -> usize
-    ensures { result ≤ room }
-{
-    if LINE < line.len() {
-        return answers::bad_request(out);
-    }
-    let answered = match protocol::count_pieces(line) {
-        2 => fields.answer_one(line, out),
-        3 => fields.answer_two(line, out),
-        4 => fields.answer_three(line, out),
+// The answer to a line, if it is a request.
+fn answered(line: &[u8], fields: &mut Fields, out: &mut Answers) -> Option<()> {
+    let request = Request::admit(line)?;
+    match request.count_pieces() {
+        2 => fields.answer_one(request, out),
+        3 => fields.answer_two(request, out),
+        4 => fields.answer_three(request, out),
         _ => None,
-    };
-    match answered {
-        Some(n) => n,
-        None => answers::bad_request(out),
+    }
+}
+
+// The answer to a line.
+pub fn respond(line: &[u8], fields: &mut Fields, out: &mut Answers) {
+    if answered(line, fields, out).is_none() {
+        out.bad_request();
     }
 }

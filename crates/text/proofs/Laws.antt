@@ -9,13 +9,14 @@ use native.Mathlib.Decide.{dec_lt}
 use lib.ListN.{length, get_or, take, drop, drop_of_length-le, length-drop}
 use lib.Seq.{drop-cons, drop-length, take-length, take_all}
 use lib.Dec.{eqb}
-use borrow.Author.Tests.{eq-eqb, eqb-true, le-leb, lt-leb}
+use borrow.Author.Tests.{eq-eqb, eqb-true, le-leb, lt-leb, lt-ltb, le-ltb}
 use Rattle.std.specs.List.{list_all}
 use Rattle.std.specs.Cmp.Lexicographic.{pointwise}
 use Rattle.std.proofs.lemmas.Bool.Decides.{Decides-eqb, same_from_decides}
 use Rattle.std.proofs.lemmas.Slice.Eq.{bytes_eq-Decides}
 use Rattle.laws.specs.Tests.{and_both}
-use Rattle.text.specs.Bytes.{all, begins, ends, same, place}
+use Rattle.std.specs.Prelude.{Some, None, is_some, unwrap_or}
+use Rattle.text.specs.Bytes.{all, begins, ends, same, place, has, position}
 
 -- a place past the end is the end
 module _ (n : ℕ) (s : List ℕ) where
@@ -71,6 +72,28 @@ place_le t (b ∷ s) = go (begins t (b ∷ s)) (place_le t s)
     go : (x : Bool) → place t s ≤ length s → cond x 0 (suc (place t s)) ≤ suc (length s)
     go true h = omega arith
     go false h = omega arith
+
+-- a place within the text is one, and its end is none
+module _ (t s : List ℕ) where
+  pub position_here : (i : ℕ) → place t s ≡ i → i < length s → position t s ≡ Some i
+  position_here i e h = rw (e, lt-ltb i (length s) h)
+
+  pub position_none : length s ≤ place t s → position t s ≡ None
+  position_none h = rw (le-ltb (place t s) (length s) h)
+
+  pub position_or : unwrap_or (position t s) (length s) ≡ place t s
+  position_or = go (dec_lt (place t s) (length s))
+    where
+      go : Dec (place t s < length s) → unwrap_or (position t s) (length s) ≡ place t s
+      go (yes h) = rw (position_here (place t s) refl h)
+      go (no h) = rw (position_none (omega arith)) (omega (arith, place_le t s))
+
+  pub position_some : is_some (position t s) ≡ has t s
+  position_some = go (has t s)
+    where
+      go : (b : Bool) → is_some (cond b (Some (place t s)) None) ≡ b
+      go true = refl
+      go false = refl
 
 -- equal byte strings are one
 pub same_equal : (t s : List ℕ) → same t s ≡ true → t ≡ s

@@ -1,5 +1,5 @@
 -- Byte strings. Assumes nothing.
-use Rattle.std.specs.Prelude.{ℕ, suc, ◌-◌, List, [], ◌∷◌, ◌++◌, Bool, true, false, cond, ◌&&◌, length, take, drop, ltb, leb, eqb}
+use Rattle.std.specs.Prelude.{ℕ, suc, ◌-◌, List, [], ◌∷◌, ◌++◌, Bool, true, false, cond, ◌&&◌, Option, Some, None, length, take, drop, ltb, leb, eqb}
 
 -- the test holds of every byte
 abbrev pub all : (ℕ → Bool) → List ℕ → Bool
@@ -28,6 +28,10 @@ place t (b ∷ s) = cond (begins t (b ∷ s)) 0 (suc (place t s))
 -- the first stands somewhere in the second
 abbrev pub has : List ℕ → List ℕ → Bool
 has t s = ltb (place t s) (length s)
+
+-- where the first stands in the second for the first time, if it does
+abbrev pub position : List ℕ → List ℕ → Option ℕ
+position t s = cond (has t s) (Some (place t s)) None
 
 -- so many bytes from a place on
 abbrev pub part : ℕ → ℕ → List ℕ → List ℕ

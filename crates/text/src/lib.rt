@@ -2,31 +2,22 @@
 
 #![tactic(auto)]
 
-ghost use Rattle.std.specs.Prelude.{◌≡◌, min, length, take, drop};
-ghost use Rattle.text.specs.Bytes.{begins, ends, same, place, part};
+ghost use Rattle.std.specs.Prelude.{◌≡◌, length, take, drop};
+ghost use Rattle.text.specs.Bytes.{begins, ends, same, place, has, position, part};
 ghost use Rattle.text.specs.Digits.{is_digit, all_digits, has_plus, plus_width, digits_up_to, number_up_to};
-
-// A place in a text, or its end if the place is past it.
-fn capped(s: &[u8], at: usize) -> usize
-    ensures { result ≡ min at (length s.now) }
-{
-    at.min(s.len())
-}
 
 // What stands from a place on: nothing past the end.
 pub fn tail(s: &[u8], from: usize) -> &[u8]
     ensures { result.now ≡ drop from s.now }
 {
-    let at = capped(s, from);
-    &s[at..]
+    &s[from.min(s.len())..]
 }
 
 // What stands before a place: all if it is past the end.
 pub fn head(s: &[u8], to: usize) -> &[u8]
     ensures { result.now ≡ take to s.now }
 {
-    let end = capped(s, to);
-    &s[..end]
+    &s[..to.min(s.len())]
 }
 
 // So many bytes from a place on, as far as the text goes.
@@ -55,16 +46,30 @@ pub fn same_bytes(s: &[u8], text: &[u8]) -> bool
     s == text
 }
 
+// The first place of the text, if it stands anywhere.
+pub fn position(s: &[u8], text: &[u8]) -> Option<usize>
+    ensures { result ≡ position text.now s.now }
+{
+    for i in 0..s.len() {
+        if begins_at(s, i, text) {
+            return Some(i);
+        }
+    }
+    None
+}
+
 // The first place of the text; the length if it is nowhere, a place where `head` and `tail` can cut.
 pub fn find(s: &[u8], text: &[u8]) -> usize
     ensures { result ≡ place text.now s.now }
 {
-    for i in 0..s.len() {
-        if begins_at(s, i, text) {
-            return i;
-        }
-    }
-    s.len()
+    position(s, text).unwrap_or(s.len())
+}
+
+// Whether the text stands anywhere.
+pub fn has(s: &[u8], text: &[u8]) -> bool
+    ensures { result ≡ has text.now s.now }
+{
+    position(s, text).is_some()
 }
 
 pub fn is_digit(b: u8) -> bool

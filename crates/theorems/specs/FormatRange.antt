@@ -6,7 +6,6 @@ use Rattle.std.proofs.Common.{sym, ◌∙◌, inr, arith, eqb-true, leb-true, le
 use Rattle.std.proofs.Math.Bool.{true}
 use Rattle.std.proofs.lemmas.Bool.{false≢true, eqb-false, lt-leb}
 use Rattle.std.proofs.Math.Logic.{inl}
-use Rattle.std.proofs.Math.Option as option
 use Rattle.laws.specs.Tests.{and_both}
 use Rattle.refusal.specs.Result.{unless, then, map_ok}
 use Rattle.refusal.specs.declared.Refusal.{Refusal}
@@ -130,15 +129,15 @@ abbrev others : Rows → Bool
 others [] = true
 others (row ∷ rows) = not (is900 (number_up_to largest_number row.0)) && others rows
 
-no_rule : (rows : Rows) → others rows ≡ true → (t : List ℕ) → Is900 t → rule_of rows t ≡ option.none
+no_rule : (rows : Rows) → others rows ≡ true → (t : List ℕ) → Is900 t → rule_of rows t ≡ None
 unfolding rule_of
 no_rule [] h t q = refl
 no_rule (row ∷ rows) h t q =
     let s = and_both (not (is900 (number_up_to largest_number row.0))) (others rows) h in
     go (same row.0 t) refl s.0 (no_rule rows s.1 t q)
   where
-    go : (x : Bool) → same row.0 t ≡ x → not (is900 (number_up_to largest_number row.0)) ≡ true → rule_of rows t ≡ option.none
-        → cond x (option.some row.1) (rule_of rows t) ≡ option.none
+    go : (x : Bool) → same row.0 t ≡ x → not (is900 (number_up_to largest_number row.0)) ≡ true → rule_of rows t ≡ None
+        → cond x (Some row.1) (rule_of rows t) ≡ None
     go true e n r = absurd (false≢true (rw (same_equal row.0 t e, q) at n))
     go false e n r = r
 

@@ -1,17 +1,15 @@
 -- A citation's text, character by character. Assumes nothing.
-use mathlib.Core.Path.{◌≡◌, refl, sym, ap}
+use mathlib.Core.Path.{◌≡◌, refl, sym}
 use mathlib.Core.List.{List, []}
 use mathlib.Core.Bool.{Bool, true, false, not, ◌&&◌}
-use Prim.Native.Nat.{ℕ, ◌+◌, ◌<◌}
-use native.Mathlib.Omega.{arith}
-use lib.ListN.{length, drop}
+use Prim.Native.Nat.{ℕ, ◌+◌}
+use lib.ListN.{drop}
 use lib.Seq.{drop-drop}
 use borrow.Author.Tests.{eq-eqb, ne_eqb}
 use Rattle.utf8.specs.Utf8.{is_utf8, decode, step_of, step_at}
 use Rattle.utf8.specs.White.{is_white}
-use Rattle.utf8.specs.declared.Step.{Step}
-use Rattle.utf8.specs.declared.Step.TheVariants.{Char, Bad, End}
-use Rattle.utf8.proofs.Laws.{step_char, step_bad, step_end, utf8_nil, decode_nil}
+use Rattle.utf8.specs.declared.Step.TheVariants.{Char, Bad}
+use Rattle.utf8.proofs.Laws.{step_char, step_bad, utf8_nil, decode_nil}
 use Rattle.grammar.specs.Lex.{blank, cite_end}
 use Rattle.grammar.specs.Citable.{holds, citable}
 use Rattle.tree.proofs.Steps.{and_false}
@@ -32,15 +30,6 @@ pub citable_end : (b : Bool) (t : List ℕ) → t ≡ [] → not b ≡ citable_f
 unfolding citable_from blank holds
 citable_end true t h = rw (h, utf8_nil, decode_nil)
 citable_end false t h = rw (h, utf8_nil, decode_nil)
-
--- no character stands here, nor the end
-pub citable_other : (b : Bool) (t : List ℕ) → 0 < length t → ((c w : ℕ) → step_of t ≡ Char c w → ⊥) → false ≡ citable_from b t
-citable_other b t l h = go (step_of t) refl
-  where
-    go : (x : Step) → step_of t ≡ x → false ≡ citable_from b t
-    go (Char c w) q = absurd (h c w q)
-    go Bad q = citable_bad b t q
-    go End q = absurd (omega (arith, l, ap length (step_end t q)))
 
 pub citable_closing : (b : Bool) (t : List ℕ) (c w : ℕ) → step_of t ≡ Char c w → c ≡ cite_end → false ≡ citable_from b t
 unfolding citable_from holds

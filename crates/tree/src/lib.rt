@@ -21,7 +21,7 @@ use grammar::NodeKind;
 pub use grammar::{CITATION_LIMIT, CITED_LIMIT};
 use refusal::Refusal;
 use text::between;
-use utf8::{Step, is_white, step_at};
+use utf8::{Walker, is_white};
 
 // The bytes of the header, of a node row and of a citation row.
 pub const HEAD_SIZE: usize = 12;
@@ -94,6 +94,7 @@ fn row_ok(tree: &[u8], left: usize, at: usize, n: usize) -> bool
     requires { (0 < left) × (at + row_size * left ≤ length tree.now) }
     ensures { result ≡ row_ok n (row_at tree.now at) (rows_from tree.now (left - 1) (at + row_size)) }
 {
+    // Numbers, and no kinds: the bytes are only tested here, and some number may be that of none.
     let k = get16(tree, at);
     let m = get16(tree, at + 2);
     let z = get16(tree, at + 4);
@@ -115,7 +116,7 @@ fn row_ok(tree: &[u8], left: usize, at: usize, n: usize) -> bool
     tiles_at(tree, m, z - 1, left - 1, at + ROW_SIZE)
 }
 
-// The citations up to the row at the byte `at`, `n` being before it.
+// The citations up to the row at the byte `at`, `n` being before it: by the number of its kind, which is not tested yet.
 fn count_row(tree: &[u8], at: usize, n: usize) -> usize
     requires { (at + 5 < length tree.now) × (n < 65536) }
     ensures { (result ≡ counted n (row_at tree.now at)) × (result ≤ n + 1) }
@@ -143,18 +144,15 @@ fn rows_ok(tree: &[u8], n: usize, c: usize) -> bool
 fn is_citable(text: &[u8]) -> bool
     ensures { result ≡ citable text.now }
 {
-    let mut at = 0;
     let mut blank = true;
-    // Each turn goes on by the width of the character that it read, so no range says the places.
-    while at < text.len() {
-        let Step::Char { code, width } = step_at(text, at) else {
+    for (_, code) in Walker::new(text, 0) {
+        let Some(code) = code else {
             return false;
         };
         if code == 0x5D {
             return false;
         }
         blank = blank && is_white(code);
-        at += width;
     }
     !blank
 }
@@ -166,7 +164,7 @@ fn is_plain(b: u8) -> bool
     b.is_ascii_graphic() && b != 0x5D
 }
 
-// Whether every byte is plain. All are looked at: a loop with one way out is compiled to many bytes a turn, as utf8's `all_ascii`.
+// Whether every byte is plain. All are looked at: a loop with one way out is compiled to many bytes a turn; `all` has two.
 fn all_plain(s: &[u8]) -> bool
     ensures { result ≡ all_plain s.now }
 {
@@ -177,7 +175,7 @@ fn all_plain(s: &[u8]) -> bool
     plain
 }
 
-// A citation's text, as `is_citable`; if `plain`, its bytes are known to be plain, which was found once for all texts.
+// A citation's text, as `is_citable`; if `plain`, its bytes are known to be plain, a fact that is found once for all texts.
 fn text_ok(text: &[u8], plain: bool) -> bool
     requires { PlainIf plain text.now }
     ensures { result ≡ citable text.now }
@@ -267,7 +265,8 @@ impl<'a> Tree<'a> {
     }
 
     // The byte at which a row begins.
-    // A row is a number with a bound, as a slice's index is: a handle of tree and row would be proved at each child instead, and clauses would say `node.tree.bytes.now` and `node.row`.
+    // A row is a number with a bound, as a slice's index is, here and in the crates above: presence keeps its marks by row, and goes over all rows by number, so a handle of tree
+    // and row would be taken apart there. The same of a citation's number.
     fn row_from(self, row: usize) -> usize
         requires { row < nodes self.bytes.now }
         ensures { (result ≡ row_from row) × (result + row_size ≤ length self.entry.bytes.now) }

@@ -1,15 +1,17 @@
 -- A byte below 80 never lies inside a character. Assumes nothing.
+use Rattle.std.specs.Bool.{MatchBool}
+use Rattle.std.specs.Str.{IsAscii, IsNotAscii}
 use Rattle.std.specs.Prelude.{Some, None}
 use Prim.Native.Nat.{ℕ, zero, suc, ◌+◌, ◌-◌, ◌*◌, ◌≤◌, ◌<◌}
 use mathlib.Core.Path.{◌≡◌, refl, sym, ap, ◌∙◌, subst}
-use mathlib.Core.Bool.{Bool, true, false, cond, ◌&&◌}
+use mathlib.Core.Bool.{Bool, true, false, cond, ◌&&◌, and-false}
 use mathlib.Core.List.{List, [], ◌∷◌, ◌++◌}
 use native.Mathlib.Omega.{arith}
 use native.Mathlib.Numerals.{add-one}
 use lib.Dec.{ltb}
 use lib.ListN.{length, get_or, drop, drop_of_length-le}
 use lib.Seq.{drop-cons}
-use borrow.Author.Tests.{ltb-true}
+use borrow.Author.Tests.{ltb-true, lt-ltb, le-ltb}
 use Rattle.laws.specs.Tests.{and_both, cond_both}
 use Rattle.utf8.specs.Utf8.{Lead, lead_of, within, with_lead, step_of, step_at, all_ascii, Place, between, inside, wrong, due, after, next, run, is_between, is_utf8, lead_codes, decode_from, decode}
 use Rattle.utf8.specs.declared.Step.TheVariants.{Char}
@@ -84,3 +86,11 @@ ascii_splits a b s h e = go (run between a) (run_low between a tt) (sym (ap is_b
     go wrong l e =
         let g : false ≡ true = sym (ap is_between (run_wrong s)) ∙ e in
         let z : ◌≡◌ {A = ℕ} 0 1 = cc in absurd (omega arith)
+
+-- std's test says the same
+pub ascii_said : (r : Bool) (s : List ℕ) → MatchBool r (IsAscii s) (IsNotAscii s) → r ≡ all_ascii s
+ascii_said true [] h = refl
+ascii_said true (b ∷ s) h = rw (lt-ltb b 128 (h 0)) (ascii_said true s (λ i. h (suc i)))
+ascii_said false [] (i, h) = absurd (omega arith)
+ascii_said false (b ∷ s) (zero, h) = rw (le-ltb b 128 h) refl
+ascii_said false (b ∷ s) (suc i, h) = rw (← ascii_said false s (i, h)) (sym (and-false (ltb b 128)))

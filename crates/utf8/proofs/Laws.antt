@@ -164,16 +164,15 @@ pub count_bad : (s : List ℕ) → step_of s ≡ Bad → char_count s ≡ 0
 unfolding char_count
 count_bad s e = ap length (decode_bad s e)
 
--- a step at a place of a text
-pub char_at : (s : List ℕ) (at c w : ℕ) → at ≤ length s → step_at s at ≡ Char c w → (is_utf8 (drop at s) ≡ is_utf8 (drop (at + w) s)) × (char_count (drop at s) ≡ char_count (drop (at + w) s) + 1) × (1 ≤ w) × (at + w ≤ length s)
+-- a character at a place of a text
+pub char_at : (s : List ℕ) (at c w : ℕ) → step_at s at ≡ Char c w → (is_utf8 (drop at s) ≡ is_utf8 (drop (at + w) s)) × (char_count (drop at s) ≡ char_count (drop (at + w) s) + 1) × (1 ≤ w) × (at + w ≤ length s)
 unfolding char_count
-char_at s at c w h e =
-    let d = step_char (drop at s) c w e in
-    let l : w ≤ length s - at = rw length-drop at d.3 in (
+char_at s at c w e =
+    let d = step_char (drop at s) c w e in (
       rw drop-drop at d.0,
       rw drop-drop at (ap length d.1) ∙ sym (add-one (length (decode (drop (at + w) s)))),
       d.2,
-      omega arith,
+      omega (arith, d.2, d.3, length-drop at s),
     )
 
 pub decode-at : (s : List ℕ) (at c w : ℕ) → step_at s at ≡ Char c w → decode (drop at s) ≡ c ∷ decode (drop (at + w) s)

@@ -8,7 +8,6 @@ use lib.ListN.{length}
 use lib.Dec.{leb}
 use borrow.Author.Tests.{leb-true}
 use Rattle.refusal.specs.Result.{unless, unless_ok, err≢ok}
-use Rattle.refusal.specs.Refusals.{number_of}
 use Rattle.refusal.specs.declared.Refusal.{Refusal}
 use Rattle.refusal.specs.declared.Refusal.TheVariants.{TooLong, NotUtf8}
 use Rattle.utf8.specs.Utf8.{is_utf8}

@@ -1,7 +1,5 @@
 -- What is tested of every text and value before it is read: its length and its encoding (refusals 10 and 11). Assumes nothing.
-use Rattle.std.specs.Prelude.{◌≡◌, ℕ, refl, List, length, leb, Result, Ok, Err}
-use Rattle.std.proofs.Common.{ap}
-use mathlib.Mathlib.Logic.Function.Defs.{Injective}
+use Rattle.std.specs.Prelude.{ℕ, List, length, leb, Result}
 use Rattle.refusal.specs.declared.Refusal.{Refusal}
 use Rattle.refusal.specs.Result.{unless}
 use Rattle.refusal.specs.declared.Refusal.TheVariants.{TooLong, NotUtf8}

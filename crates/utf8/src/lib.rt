@@ -1,9 +1,12 @@
 // UTF-8: the character at a place, whether bytes are well-formed, how many characters they are, white space, and what is tested of every text first.
+// By the table of the Unicode Standard, which the definitions spell out, and not by std's `str`: what is proved here goes back to the table alone.
 
 #![tactic(auto)]
 
-ghost use Rattle.std.specs.Prelude.{◌≡◌, ◌&&◌, ◌+◌, ◌*◌, ◌^◌, ◌≤◌, leb, length, drop};
+ghost use Rattle.std.specs.Prelude.{◌≡◌, ◌&&◌, ◌+◌, ◌-◌, ◌*◌, ◌^◌, ◌≤◌, leb, length, drop};
+ghost use Rattle.std.specs.Iterator.{at_most};
 ghost use Rattle.utf8.specs.Utf8.{lead_of, char_of, code_of, step_at, all_ascii, is_utf8, char_count, scanned};
+ghost use Rattle.utf8.specs.Walker.{Gives};
 ghost use Rattle.utf8.specs.White.{is_white};
 ghost use Rattle.utf8.specs.Limits.{admitted};
 
@@ -12,8 +15,7 @@ use refusal::Refusal;
 // A row of table 3-7: how many bytes follow, the second byte's range, the first byte's part of the code.
 type Lead = (usize, u8, u8, u32);
 
-// The character at a place. `scan` and formats' `all_unoc_upper` tell a bad byte from the end: an `Option` of a `Result` would nest
-// for them, and the others match `Char` alone.
+// The character at a place. `Walker` tells a bad byte from the end: an `Option` of a `Result` would nest for it, and for all others it is one arm more.
 #[derive(Clone, Copy)]
 pub enum Step {
     Char { code: u32, width: usize },
@@ -96,16 +98,64 @@ pub fn step_at(s: &[u8], at: usize) -> Step
     }
 }
 
-// Whether every byte is ASCII. All are looked at: a loop with one way out is compiled to many bytes a turn. Crate tree has
-// such a loop with another test: one function of the test would need a contract that is longer than both.
+// Whether every byte is ASCII.
 fn all_ascii(s: &[u8]) -> bool
     ensures { result ≡ all_ascii s.now }
 {
-    let mut ascii = true;
-    for b in s {
-        ascii &= *b < 0x80;
+    s.is_ascii()
+}
+
+// A walker over a lent text: it carries the text and the number of the next byte, and gives its characters, each with the place where it begins; a byte that
+// fits none has no code and is the last.
+#[derive(Clone, Copy)]
+pub struct Walker<'a> {
+    pub text: &'a [u8],
+    pub at: usize,
+}
+
+impl<'a> Walker<'a> {
+    pub fn new(text: &'a [u8], at: usize) -> Walker<'a>
+        ensures { (result.text ≡ text.entry) × (result.at ≡ at) }
+    {
+        Walker { text, at }
     }
-    ascii
+
+    // The character here.
+    pub fn step(&self) -> Step
+        ensures { result ≡ step_at self.now.text.now self.now.at }
+    {
+        step_at(self.text, self.at)
+    }
+
+    // The number of the next byte.
+    pub fn offset(&self) -> usize
+        ensures { result ≡ self.now.at }
+    {
+        self.at
+    }
+}
+
+impl<'a> Iterator for Walker<'a> {
+    type Item = (usize, Option<u32>);
+
+    ghost next_gives = { λ old given new. (new.text.now ≡ old.text.now) × Gives old.text.now old.at given new.at };
+
+    ghost remaining = { λ c. at_most (length c.text.now - c.at) };
+
+    fn next(&mut self) -> Option<(usize, Option<u32>)> {
+        let place = self.at;
+        match step_at(self.text, place) {
+            Step::Char { code, width } => {
+                self.at = place + width;
+                Some((place, Some(code)))
+            }
+            Step::Bad => {
+                self.at = self.text.len();
+                Some((place, None))
+            }
+            Step::End => None,
+        }
+    }
 }
 
 // Reads a text up to its end, or to the first byte that fits no character; the characters that were passed.
@@ -113,18 +163,13 @@ fn scan(s: &[u8]) -> Result<usize, usize>
     ensures { result ≡ scanned s.now }
 {
     let mut chars = 0;
-    let mut at = 0;
-    // Steps by a character's width.
-    loop {
-        match step_at(s, at) {
-            Step::Char { code: _, width } => {
-                at += width;
-                chars += 1;
-            }
-            Step::Bad => return Err(chars),
-            Step::End => return Ok(chars),
+    for (_, code) in Walker::new(s, 0) {
+        match code {
+            Some(_) => chars += 1,
+            None => return Err(chars),
         }
     }
+    Ok(chars)
 }
 
 // A text so long that all its bytes are first tested for ASCII.

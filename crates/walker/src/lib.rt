@@ -1,4 +1,4 @@
-// A walker over a lent text: it carries the text and the next byte's number. Its methods take it apart and leave the work to functions with plain parameters.
+// The walker over a lent text, and functions with plain parameters that do its steps: the place one character on, and the character at a place.
 
 #![tactic(auto)]
 
@@ -7,13 +7,7 @@ ghost use Rattle.utf8.specs.Utf8.{step_at};
 ghost use Rattle.walker.specs.Next.{next_at};
 
 use utf8::Step;
-
-// The lent text, and the number of the next byte.
-#[derive(Clone, Copy)]
-pub struct Walker<'a> {
-    text: &'a [u8],
-    at: usize,
-}
+pub use utf8::Walker;
 
 // The place after the character at `at`; `at` itself where none stands.
 pub fn next_at(text: &[u8], at: usize) -> usize
@@ -26,36 +20,11 @@ pub fn next_at(text: &[u8], at: usize) -> usize
     }
 }
 
-impl<'a> Walker<'a> {
-    pub fn new(text: &'a [u8], at: usize) -> Walker<'a>
-        ensures { (result.text ≡ text.entry) × (result.at ≡ at) }
-    {
-        Walker { text, at }
-    }
-
-    // The character here.
-    pub fn step(self) -> Step
-        ensures { result ≡ step_at self.entry.text.now self.entry.at }
-    {
-        utf8::step_at(self.text, self.at)
-    }
-
-    // One character on.
-    pub fn next(self) -> Walker<'a>
-        ensures { (result.text ≡ self.entry.text) × (result.at ≡ next_at self.entry.text.now self.entry.at) }
-    {
-        Walker {
-            text: self.text,
-            at: next_at(self.text, self.at),
-        }
-    }
-
-    // The number of the next byte.
-    pub fn offset(self) -> usize
-        ensures { result ≡ self.entry.at }
-    {
-        self.at
-    }
+// The walker one character on; it stays where no character stands.
+pub fn next(walker: Walker) -> Walker
+    ensures { (result.text ≡ walker.entry.text) × (result.at ≡ next_at walker.entry.text.now walker.entry.at) }
+{
+    Walker::new(walker.text, next_at(walker.text, walker.at))
 }
 
 // The character at a place, by a walker: who calls this holds no walker.

@@ -8,48 +8,48 @@ use native.Mathlib.Omega.{arith}
 use lib.ListN.{length, get_or, take, length-append}
 use lib.Seq.{take-suc}
 use Rattle.grammar.specs.Expr.{concat}
-use Rattle.grammar.specs.Rows as grammar
-use Rattle.grammar.specs.Rows.{row, op_kind}
+use Rattle.std.specs.Prelude.{map}
+use Rattle.std.proofs.lemmas.List.{map-append, length-map}
+use Rattle.grammar.specs.Rows.{Row, row, op_kind}
 use Rattle.grammar.specs.Kinds.{kind_number}
 use Rattle.grammar.specs.declared.NodeKind.{NodeKind}
 use Rattle.grammar.specs.declared.NodeKind.TheVariants.{Citation, Then, And, Or, Xor}
-use Rattle.parser.specs.Packed.{pack}
-use Rattle.parser.specs.declared.Row.{Row}
 use Rattle.fields.specs.Appended.{Appended}
 use Rattle.grammar.specs.Bytes.{two_bytes, head_bytes, row_bytes, cite_bytes}
 use Rattle.lexer.specs.Tokens.{placed, cut, cuts}
 use Rattle.lexer.specs.declared.Place.{Place}
-use Rattle.writer.specs.Unpacked.{row_of, unpacked}
+use Rattle.writer.specs.Unpacked.{numbered_row}
 
-rows_append : (a b : List grammar.Row) → row_bytes (a ++ b) ≡ row_bytes a ++ row_bytes b
+rows_append : (a b : List Row) → row_bytes (a ++ b) ≡ row_bytes a ++ row_bytes b
 unfolding row_bytes
 rows_append [] b = refl
 rows_append (row k m z ∷ a) b = rw (rows_append a b) (simp append_assoc)
 
-unpacked_append : (a b : List Row) → unpacked (a ++ b) ≡ unpacked a ++ unpacked b
-unfolding unpacked
-unpacked_append [] b = refl
-unpacked_append (v ∷ a) b = ap (λ x. row_of v ∷ x) (unpacked_append a b)
+rows_size : (rs : List Row) → length (row_bytes rs) ≡ 6 * length rs
+unfolding row_bytes two_bytes
+rows_size [] = refl
+rows_size (row k m z ∷ rs) = omega (arith, rows_size rs)
 
-one_row : (v : Row) → unpacked (v ∷ []) ≡ row_of v ∷ []
-unfolding unpacked
-one_row v = refl
+-- rows that are written from something each: the bytes of the first ones, and of one more
+module _ {A : Type 0} (f : A → Row) (vs : List A) where
+  pub rows_next : (i : ℕ) (d : A) → i < length vs → row_bytes (map f (take i vs)) ++ row_bytes (f (get_or vs i d) ∷ []) ≡ row_bytes (map f (take (i + 1) vs))
+  rows_next i d h =
+      rw (add-one i, take-suc vs i d h, map-append f (take i vs) (get_or vs i d ∷ []))
+      (sym (rows_append (map f (take i vs)) (f (get_or vs i d) ∷ [])))
 
--- the bytes of the first rows, and of one more
-pub rows_next : (vs : List Row) (i : ℕ) → i < length vs → row_bytes (unpacked (take i vs)) ++ row_bytes (row_of (get_or vs i (pack Citation 0 0)) ∷ []) ≡ row_bytes (unpacked (take (i + 1) vs))
-rows_next vs i h =
-    rw (add-one i, take-suc vs i (pack Citation 0 0) h)
-    (sym (ap row_bytes (unpacked_append (take i vs) (get_or vs i (pack Citation 0 0) ∷ [])) ∙ rows_append (unpacked (take i vs)) (unpacked (get_or vs i (pack Citation 0 0) ∷ [])) ∙ ap (λ x. row_bytes (unpacked (take i vs)) ++ row_bytes x) (one_row (get_or vs i (pack Citation 0 0)))))
+  -- six bytes a row
+  pub rows_long : length (row_bytes (map f vs)) ≡ 6 * length vs
+  rows_long = rows_size (map f vs) ∙ ap (λ (x : ℕ). 6 * x) (length-map vs f)
 
--- the bytes of no rows
-pub rows_none : (vs : List Row) → row_bytes (unpacked (take 0 vs)) ≡ []
-unfolding row_bytes unpacked
-rows_none vs = refl
+  -- the bytes of no rows
+  pub rows_none : row_bytes (map f (take 0 vs)) ≡ []
+  unfolding row_bytes
+  rows_none = refl
 
 -- the bytes of one row
-pub row-bytes : (v : Row) → row_bytes (row_of v ∷ []) ≡ two_bytes (kind_number v.kind) ++ (two_bytes v.number ++ two_bytes v.size)
-unfolding row_bytes row_of
-row-bytes v = rw (append-nil (two_bytes v.size))
+pub row-bytes : (n : ℕ × ℕ × ℕ) → row_bytes (numbered_row n ∷ []) ≡ two_bytes n.0 ++ (two_bytes n.1 ++ two_bytes n.2)
+unfolding row_bytes
+row-bytes n = rw (append-nil (two_bytes n.2))
 
 -- a kind's number is a field
 pub kind_small : (k : NodeKind) → kind_number k < 65536
@@ -59,18 +59,6 @@ kind_small Then = omega arith
 kind_small And = omega arith
 kind_small Or = omega arith
 kind_small Xor = omega arith
-
--- six bytes a row
-pub rows_size : (vs : List Row) → length (row_bytes (unpacked vs)) ≡ 6 * length vs
-unfolding row_bytes unpacked row_of two_bytes
-rows_size [] = refl
-rows_size (v ∷ vs) = omega (arith, rows_size vs)
-
--- as many rows
-pub rows_count : (vs : List Row) → length (unpacked vs) ≡ length vs
-unfolding unpacked
-rows_count [] = refl
-rows_count (v ∷ vs) = ap suc (rows_count vs)
 
 cuts_append : (s : List ℕ) (a b : List Place) → cuts s (a ++ b) ≡ cuts s a ++ cuts s b
 unfolding cuts
@@ -151,17 +139,13 @@ size_all s (v ∷ vs) (suc i) =
 pub size_next : (s : List ℕ) (vs : List Place) (i : ℕ) → i < length vs → length (concat (cuts s (take (i + 1) vs))) ≡ length (concat (cuts s (take i vs))) + length (cut s (get_or vs i (placed 0 0)))
 size_next s vs i h = ap length (sym (texts-next s vs i h)) ∙ length-append (concat (cuts s (take i vs))) (cut s (get_or vs i (placed 0 0)))
 
-row_size_lem : (v : Row) → length (row_bytes (row_of v ∷ [])) ≡ 6
-unfolding row_bytes row_of two_bytes
-row_size_lem v = refl
-
 head_size_lem : (n c t : ℕ) → length (head_bytes n c t) ≡ 12
 unfolding head_bytes two_bytes
 head_size_lem n c t = refl
 
 -- a row ends six bytes on
-pub ends-row : (v : Row) {at q : ℕ} {old new : List ℕ} → Appended (row_bytes (row_of v ∷ [])) at old new q → q ≡ at + 6
-ends-row v {at} h = h.ends ∙ ap (λ (x : ℕ). at + x) (row_size_lem v)
+pub ends-row : (r : Row) {at q : ℕ} {old new : List ℕ} → Appended (row_bytes (r ∷ [])) at old new q → q ≡ at + 6
+ends-row r {at} h = h.ends ∙ ap (λ (x : ℕ). at + x) (rows_size (r ∷ []))
 
 -- the header ends at byte 12
 pub ends_head : (n c t : ℕ) {at q : ℕ} {old new : List ℕ} → Appended (head_bytes n c t) at old new q → q ≡ at + 12

@@ -1,5 +1,5 @@
 -- Rows as the parser hands them over, and as a tree has them. Assumes nothing.
-use Rattle.std.specs.Prelude.{List, [], ◌∷◌}
+use Rattle.std.specs.Prelude.{ℕ, List, map}
 use Rattle.grammar.specs.Rows as grammar
 use Rattle.grammar.specs.Rows.{row}
 use Rattle.grammar.specs.Kinds.{kind_number}
@@ -10,6 +10,9 @@ unfoldable pub row_of : Row → grammar.Row
 row_of r = row (kind_number r.kind) r.number r.size
 
 -- a tree's rows
-unfoldable pub unpacked : List Row → List grammar.Row
-unpacked [] = []
-unpacked (r ∷ rs) = row_of r ∷ unpacked rs
+abbrev pub unpacked : List Row → List grammar.Row
+unpacked rs = map row_of rs
+
+-- the row of three numbers: kind, number and size
+abbrev pub numbered_row : ℕ × ℕ × ℕ → grammar.Row
+numbered_row (k, m, z) = row k m z

@@ -2,12 +2,13 @@
 
 #![tactic(auto)]
 
-ghost use Rattle.std.specs.Prelude.{◌≡◌, [], ◌∷◌, ◌+◌, ◌*◌, ◌≤◌, ◌<◌, length};
+ghost use Rattle.std.specs.Prelude.{◌≡◌, [], ◌∷◌, ◌+◌, ◌*◌, ◌≤◌, ◌<◌, length, map};
 ghost use Rattle.fields.specs.Appended.{Appended};
 ghost use Rattle.grammar.specs.Expr.{concat};
 ghost use Rattle.grammar.specs.Bytes.{head_size, row_size, cite_size, texts_from, head_bytes, row_bytes, cite_bytes, packed};
 ghost use Rattle.lexer.specs.Tokens.{cut, cuts};
-ghost use Rattle.writer.specs.Unpacked.{row_of, unpacked};
+ghost use Rattle.grammar.specs.Rows as grammar_rows;
+ghost use Rattle.writer.specs.Unpacked.{row_of, numbered_row};
 
 use fields::{put_text, put16};
 use lexer::Place;
@@ -22,7 +23,34 @@ fn cut_at(text: &[u8], place: Place) -> &[u8]
     between(text, place.from as usize, place.size as usize)
 }
 
-// The header of `n` nodes, `c` citations and `t` bytes of texts.
+// What a tree's row is written from.
+pub trait TreeRow: Copy {
+    // The row.
+    ghost stands_for: { Self → grammar_rows.Row };
+
+    // The number of its kind, its number, and the rows in its subtree.
+    fn numbers(self) -> (u16, u16, u16)
+        ensures { numbered_row result ≡ stands_for self };
+}
+
+impl TreeRow for Row {
+    ghost stands_for = { row_of };
+
+    fn numbers(self) -> (u16, u16, u16) {
+        (usize::from(self.kind) as u16, self.number, self.size)
+    }
+}
+
+// For callers who hold rows as numbers, whatever kind the first one is.
+impl TreeRow for (u16, u16, u16) {
+    ghost stands_for = { numbered_row };
+
+    fn numbers(self) -> (u16, u16, u16) {
+        self
+    }
+}
+
+// The header of `n` nodes, `c` citations and `t` bytes of texts. Buffer and place are two parameters, here and below, as in crate fields, which says why.
 fn put_head(n: usize, c: usize, t: usize, out: &mut [u8]) -> usize
     requires { (head_size ≤ length out.old) × (texts_from n c + t < 65536) }
     ensures { Appended (head_bytes n c t) 0 out.old out.new result }
@@ -36,19 +64,20 @@ fn put_head(n: usize, c: usize, t: usize, out: &mut [u8]) -> usize
 }
 
 // One row.
-fn put_row(row: Row, out: &mut [u8], at: usize) -> usize
+fn put_row<R: TreeRow>(row: R, out: &mut [u8], at: usize) -> usize
     requires { at + row_size ≤ length out.old }
-    ensures { Appended (row_bytes (row_of row ∷ [])) at out.old out.new result }
+    ensures { Appended (row_bytes (R.stands_for row ∷ [])) at out.old out.new result }
 {
-    let a = put16(out, at, usize::from(row.kind));
-    let b = put16(out, a, row.number as usize);
-    put16(out, b, row.size as usize)
+    let (kind, number, size) = row.numbers();
+    let a = put16(out, at, usize::from(kind));
+    let b = put16(out, a, usize::from(number));
+    put16(out, b, usize::from(size))
 }
 
 // All rows.
-fn put_rows(rows: &[Row], out: &mut [u8], at: usize) -> usize
+fn put_rows<R: TreeRow>(rows: &[R], out: &mut [u8], at: usize) -> usize
     requires { at + row_size * length rows.now ≤ length out.old }
-    ensures { Appended (row_bytes (unpacked rows.now)) at out.old out.new result }
+    ensures { Appended (row_bytes (map R.stands_for rows.now)) at out.old out.new result }
 {
     let mut w = at;
     for &row in rows {
@@ -86,15 +115,15 @@ fn put_texts(text: &[u8], places: &[Place], out: &mut [u8], at: usize) -> usize
 }
 
 // The tree of rows, which cite the texts at places, so many bytes together; its length.
-pub fn write_tree(
-    rows: &[Row],
+pub fn write_tree<R: TreeRow>(
+    rows: &[R],
     text: &[u8],
     places: &[Place],
     bytes: usize,
     out: &mut [u8],
 ) -> usize
     requires { (bytes ≡ length (concat (cuts text.now places.now))) × (texts_from (length rows.now) (length places.now) + bytes < 65536) × (texts_from (length rows.now) (length places.now) + bytes ≤ length out.old) }
-    ensures { Appended (packed (unpacked rows.now) (cuts text.now places.now)) 0 out.old out.new result }
+    ensures { Appended (packed (map R.stands_for rows.now) (cuts text.now places.now)) 0 out.old out.new result }
 {
     let mut w = put_head(rows.len(), places.len(), bytes, out);
     w = put_rows(rows, out, w);

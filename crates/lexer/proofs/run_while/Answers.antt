@@ -1,26 +1,42 @@
+use Prim.Native.Nat.{◌≤◌}
 use native.Mathlib.Omega.{arith}
-use mathlib.Core.Path.{sym, ◌∙◌}
-use Rattle.lexer.proofs.Runs.{run_on, run_off, run_stop, char_within}
+use mathlib.Core.Path.{sym, ap, ◌∙◌}
+use lib.ListN.{length, length-drop}
+use Rattle.utf8.proofs.Laws.{char_at, step_end}
+use Rattle.lexer.proofs.Runs.{run_on, run_off, run_bad, run_out}
 use Rattle.lexer.proofs.run_while.Goals as goal
+
+pub returns-in_default : goal.returns-in_default
+returns-in_default g c w t =
+    let i = c.loop-place.invariant in
+    let n = rw (c.in_default.is, i.0) at c.in-Some.ensures.steps.1 in
+    omega (arith, n.0, run_bad w c.args.text.now c.loop-place.place-iterator.at n.1, i.3 w t)
 
 pub returns-then-not-on : goal.returns-then-not-on
 returns-then-not-on g c w t =
-    let e = sym c.step_at.ensures ∙ c.in-Char.is in
-    let a = t c.in-Char.code c.on.result (omega arith) c.on.ensures in
-    run_off w c.args.text.now c.loop-code.i _ _ e (sym a ∙ c.if-not-on.true) ∙ c.loop-code.invariant w t
+    let i = c.loop-place.invariant in
+    let n = rw (c.in-Some-code.is, i.0) at c.in-Some.ensures.steps.1 in
+    let a = t c.in-Some-code.code c.on.result (omega arith) c.on.ensures in
+    omega (arith, n.0, run_off w c.args.text.now c.loop-place.place-iterator.at _ _ n.1.1 (sym a ∙ c.if-not-on.true), i.3 w t)
 
-pub overflow_add-i : goal.overflow_add-i
-overflow_add-i g c = let d = char_within c.args.text.now c.loop-code.i _ _ (sym c.step_at.ensures ∙ c.in-Char.is) in omega arith
-
-pub loop-code-smaller : goal.loop-code-smaller
-loop-code-smaller g c = let d = char_within c.args.text.now c.loop-code.i _ _ (sym c.step_at.ensures ∙ c.in-Char.is) in omega arith
-
-pub loop-code-preserved : goal.loop-code-preserved
-loop-code-preserved g c w t =
-    let e = sym c.step_at.ensures ∙ c.in-Char.is in
-    let a = t c.in-Char.code c.on.result (omega arith) c.on.ensures in
-    let d = char_within c.args.text.now c.loop-code.i _ _ e in
-    run_on w c.args.text.now c.loop-code.i _ _ (omega arith) e (sym a ∙ c.if-not-on.false) ∙ c.loop-code.invariant w t
+pub loop-place-preserved : goal.loop-place-preserved
+loop-place-preserved g c =
+    let i = c.loop-place.invariant in
+    let n = rw (c.in-Some-code.is, i.0) at c.in-Some.ensures.steps in
+    let s = c.args.text.now in
+    let at = c.loop-place.place-iterator.at in
+    let d = char_at s at _ _ n.1.1.1 in (
+      n.0,
+      omega (arith, i.1, n.1.1.2),
+      omega (arith, d.3, n.1.1.2),
+      λ w t. let a = t c.in-Some-code.code c.on.result (omega arith) c.on.ensures in rw n.1.1.2 (run_on w s at _ _ n.1.1.1 (sym a ∙ c.if-not-on.false) ∙ i.3 w t),
+    )
 
 pub returns : goal.returns
-returns g c w t = run_stop w c.args.text.now c.loop-code.i (λ x k e. c.in_default.not-Char x k (c.step_at.ensures ∙ e)) ∙ c.loop-code.invariant w t
+returns g c w t =
+    let i = c.loop-place.invariant in
+    let s = c.args.text.now in
+    let at = c.loop-place.place-iterator.at in
+    let e = ap length (step_end _ (rw i.0 at c.in-None.ensures.steps.1)) in
+    let k : length s ≤ at = omega (arith, e, length-drop at s) in
+    omega (arith, k, i.1, i.2, run_out w s at k, i.3 w t)

@@ -1,10 +1,10 @@
-use mathlib.Core.Path.{sym, ap, ◌∙◌}
+use mathlib.Core.Path.{sym, ◌∙◌}
 use Rattle.fields.proofs.Appends as appends
 use Rattle.line.proofs.Outcomes.{judged_refused, judged_done, judged-admitted}
 use Rattle.line.proofs.judged_lines.Goals as goal
 
-pub tree_lines-requires : goal.tree_lines-requires
-tree_lines-requires c = (judged-admitted c.args.kind c.args.tree.bytes.now c.args.codes.now c.args.value.now c.args.tree.tested c.in-Ok.presence c.in-Ok.format (sym c.eval_and_truth.ensures ∙ c.in-Ok.is), c.requires)
+pub invariant_of-value : goal.invariant_of-value
+invariant_of-value c = record { admitted = judged-admitted c.args.kind c.args.tree.bytes.now c.args.codes.now c.args.value.now c.args.tree.tested c.in-Ok.presence c.in-Ok.format (sym c.eval_and_truth.ensures ∙ c.in-Ok.is) }
 
 pub returns-in-Err : goal.returns-in-Err
 returns-in-Err c = appends.same (judged_refused c.args.kind c.args.tree.bytes.now c.args.codes.now c.args.value.now c.args.tree.tested c.in-Err.why (sym c.eval_and_truth.ensures ∙ c.in-Err.is)) c.refused_line.ensures

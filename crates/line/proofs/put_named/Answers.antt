@@ -1,14 +1,8 @@
 use mathlib.Core.Path.{◌≡◌}
 use Prim.Native.Nat.{◌+◌, ◌-◌, ◌*◌}
 use native.Mathlib.Omega.{arith}
-use Rattle.line.proofs.Named.{going_begin, going_room, going_next, going_end}
+use Rattle.line.proofs.Named.{going_room, going_next, going_end}
 use Rattle.line.proofs.put_named.Goals as goal
-
-pub loop-k-init : goal.loop-k-init
-loop-k-init c = let all : c.args.count - 0 ≡ c.args.count = omega arith in rw all (going_begin _ _ _ _ _ c.requires.0 c.requires.1)
-
-pub get16-requires : goal.get16-requires
-get16-requires c = omega (arith, c.loop-k.invariant.place)
 
 pub put_cited-w-requires : goal.put_cited-w-requires
 put_cited-w-requires c = let r = going_room c.loop-k.invariant (omega arith) _ c.get16.ensures.0 c.requires.2 in (r.0, r.1)
@@ -21,6 +15,3 @@ loop-k-preserved c =
 
 pub returns : goal.returns
 returns c = going_end c.loop-k.invariant (omega arith)
-
-pub overflow_mul-k : goal.overflow_mul-k
-overflow_mul-k c = omega (arith, c.requires.0)

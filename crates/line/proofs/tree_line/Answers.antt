@@ -6,16 +6,6 @@ use Rattle.grammar.specs.Reading.{print_limit}
 use Rattle.line.proofs.Texts.{line_names, within, lined}
 use Rattle.line.proofs.tree_line.Goals as goal
 
-pub put_text-end-requires : goal.put_text-end-requires
-put_text-end-requires c =
-    let p : c.print_into-n.result ≤ length c.print_into-n.new.scratch = omega arith in
-    omega (arith, length-take-le c.print_into-n.result c.print_into-n.new.scratch p, c.put_text-from.ensures.ends)
-
-pub put_byte-requires : goal.put_byte-requires
-put_byte-requires c =
-    let p : c.print_into-n.result ≤ length c.print_into-n.new.scratch = omega arith in
-    omega (arith, length-take-le c.print_into-n.result c.print_into-n.new.scratch p, c.put_text-from.ensures.ends, c.put_text-end.ensures.ends)
-
 pub returns : goal.returns
 returns c =
     let p : c.print_into-n.result ≤ length c.print_into-n.new.scratch = omega arith in

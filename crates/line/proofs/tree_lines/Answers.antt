@@ -7,4 +7,4 @@ use Rattle.line.proofs.Texts.{five_written}
 use Rattle.line.proofs.tree_lines.Goals as goal
 
 pub returns : goal.returns
-returns c = let e = tree_at c.args.tree.bytes.now 0 in five_written c.args.kind (printed e) (truth_name c.args.presence) (figures (length (pakete e))) (format_said c.args.value.now c.args.format e) c.status_line-a.ensures c.tree_line-b.ensures c.presence_line-p.ensures c.pakete_line-n.ensures c.format_line.ensures
+returns c = let e = tree_at c.args.tree.bytes.now 0 in five_written c.args.kind (printed e) (truth_name c.args.presence) (figures (length (pakete e))) (format_said c.args.value.bytes.now c.args.format e) c.status_line-a.ensures c.tree_line-b.ensures c.presence_line-p.ensures c.pakete_line-n.ensures c.format_line.ensures

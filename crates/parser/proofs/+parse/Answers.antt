@@ -65,13 +65,6 @@ parse_chain-loop-next-init t c = let s = c.args.toks.now in let p = c.args.p in 
     let st = chain_starts s p old c.parse_juxtaposition.new.work _ c.in_ok-lead.ensures c.in-Some.op c.in-Some.ensures _ c.led-q.ensures in
     (st.0, refl, refl)
 
-pub parse_chain-add_node-requires : goal.parse_chain-add_node-requires
-parse_chain-add_node-requires t c = let s = c.args.toks.now in let p = c.args.p in let old = c.args.work.now in let ready = c.requires in
-    let q = c.loop-next.q in let inv = c.loop-next.invariant in
-    let go = chain_goes s p c.loop-next.work q inv.0 c.parse_juxtaposition-in-loop-next.new.work _ c.in_ok-next.ensures in
-    let n = c.in_ok-next.next in let room = row_left s p (length old) n.at n.rows n.cites (q.kids + 1) ready go.0.within go.0.some in
-    (go.0.within.above, omega (arith, room.0, inv.2), room.1, room.2)
-
 pub parse_chain-returns-in_default-op_at : goal.parse_chain-returns-in_default-op_at
 parse_chain-returns-in_default-op_at t c = let s = c.args.toks.now in let p = c.args.p in let old = c.args.work.now in let ready = c.requires in
     let q = c.loop-next.q in let inv = c.loop-next.invariant in
@@ -81,13 +74,6 @@ parse_chain-returns-in_default-op_at t c = let s = c.args.toks.now in let p = c.
     let chain : Pos = record { at = n.at; rows = n.rows; cites = n.cites; kind = q.kind; kids = q.kids + 1 } in
     let st = chain_starts s p old c.parse_juxtaposition.new.work _ c.in_ok-lead.ensures c.in-Some.op c.in-Some.ensures _ c.led-q.ensures in
     rw (c.add_node.ensures.value, c.add_node.ensures.work_after) (chain_ends s p _ chain go.0 fits old c.in_default-op_at.ensures (go.1 ∙ inv.1 ∙ st.1))
-
-pub parse_chain-grow-q-requires : goal.parse_chain-grow-q-requires
-parse_chain-grow-q-requires t c = let s = c.args.toks.now in let p = c.args.p in let old = c.args.work.now in let ready = c.requires in
-    let q = c.loop-next.q in let inv = c.loop-next.invariant in
-    let go = chain_goes s p c.loop-next.work q inv.0 c.parse_juxtaposition-in-loop-next.new.work _ c.in_ok-next.ensures in
-    let n = c.in_ok-next.next in let room = row_left s p (length old) n.at n.rows n.cites (q.kids + 1) ready go.0.within go.0.some in
-    (go.0.within.above, omega (arith, room.0, inv.2), room.1, room.2, omega (arith, go.0.within.inside, ready.short))
 
 pub parse_chain-loop-next-smaller : goal.parse_chain-loop-next-smaller
 parse_chain-loop-next-smaller t c = let s = c.args.toks.now in let p = c.args.p in let old = c.args.work.now in let ready = c.requires in

@@ -12,9 +12,6 @@ pub returns-then-not-answers_fit : goal.returns-then-not-answers_fit
 returns-then-not-answers_fit c = let t = c.in_ok-tree.tree in
     eval-unfit _ _ t.tested (sym c.answers_fit.ensures ∙ c.if-not-answers_fit.true) ∙ ap (λ b. eval_answer b c.args.answers.now) c.in_ok-tree.ensures
 
-pub eval_tree-requires : goal.eval_tree-requires
-eval_tree-requires c = sym c.answers_fit.ensures ∙ c.if-not-answers_fit.false
-
 pub returns : goal.returns
 returns c = let t = c.in_ok-tree.tree in
     c.eval_tree.ensures ∙ eval-fit _ _ t.tested (sym c.answers_fit.ensures ∙ c.if-not-answers_fit.false) ∙ ap (λ b. eval_answer b c.args.answers.now) c.in_ok-tree.ensures

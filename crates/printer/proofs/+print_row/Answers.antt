@@ -16,9 +16,6 @@ returns-then-eq t c = let p = c.requires in let h = c.args.tree.tested in
     let f = walks.word _ h _ _ _ p.0 c.kind_at-kind.ensures c.number_at.ensures.0 (same_true the_type tt _ _ (sym c.eq.ensures ∙ c.if-eq.true)) in
     appends.same (sym f.is) c.put_cite.ensures
 
-pub children-child-items-requires : goal.children-child-items-requires
-children-child-items-requires t c = (c.requires.0, λ q. same_false the_type _ _ (sym c.eq.ensures ∙ c.if-eq.false) (c.kind_at-kind.ensures ∙ q))
-
 pub loop-child-init : goal.loop-child-init
 loop-child-init t c =
     let it = c.children-child-items.ensures in
@@ -37,8 +34,8 @@ put_separator-w-requires t c =
     let len = walks.lengths _ c.args.tree.tested s g.1 _ c.kind_at-inner.ensures in
     omega (arith, len, p.1, s.stands.ends, s.long)
 
-pub put_left-w-requires : goal.put_left-w-requires
-put_left-w-requires t c =
+pub put_paren-w-requires : goal.put_paren-w-requires
+put_paren-w-requires t c =
     let p = c.requires in
     let g = c.in-Some.ensures.steps in
     let s = walks.state_from c.loop-child.invariant.1 g.0 in
@@ -52,21 +49,21 @@ print_row-w-requires t c =
     let s = walks.state_from c.loop-child.invariant.1 g.0 in
     let len = walks.lengths _ c.args.tree.tested s g.1 _ c.kind_at-inner.ensures in
     let n = walks.turn _ c.args.tree.tested s g.1 in
-    (omega (arith, c.decreases, n.next.shrinks), (n.next.inside, omega (arith, len, p.1, s.stands.ends, s.long, c.put_separator-w.ensures.ends, c.put_left-w.ensures.ends)))
+    (omega (arith, c.decreases, n.next.shrinks), (n.next.inside, omega (arith, len, p.1, s.stands.ends, s.long, c.put_separator-w.ensures.ends, c.put_paren-w.ensures.ends)))
 
-pub put_right-w-requires : goal.put_right-w-requires
-put_right-w-requires t c =
+pub put_paren-w-requires-in-loop-child : goal.put_paren-w-requires-in-loop-child
+put_paren-w-requires-in-loop-child t c =
     let p = c.requires in
     let g = c.in-Some.ensures.steps in
     let s = walks.state_from c.loop-child.invariant.1 g.0 in
     let len = walks.lengths _ c.args.tree.tested s g.1 _ c.kind_at-inner.ensures in
-    omega (arith, len, p.1, s.stands.ends, s.long, c.put_separator-w.ensures.ends, c.put_left-w.ensures.ends, c.print_row-w.ensures.ends)
+    omega (arith, len, p.1, s.stands.ends, s.long, c.put_separator-w.ensures.ends, c.put_paren-w.ensures.ends, c.print_row-w.ensures.ends)
 
 pub loop-child-preserved : goal.loop-child-preserved
 loop-child-preserved t c =
     let i = c.loop-child.invariant in
     let g = c.in-Some.ensures.steps in
-    (g.2 ∙ i.0, rw (g.4, g.3, i.0) (walks.again _ c.args.tree.tested (walks.state_from i.1 g.0) g.1 _ c.kind_at-inner.ensures c.put_separator-w.ensures c.put_left-w.ensures c.print_row-w.ensures c.put_right-w.ensures (omega (arith))))
+    (g.2 ∙ i.0, rw (g.4, g.3, i.0) (walks.again _ c.args.tree.tested (walks.state_from i.1 g.0) g.1 _ c.kind_at-inner.ensures c.put_separator-w.ensures c.put_paren-w.ensures c.print_row-w.ensures c.put_paren-w-in-loop-child.ensures (omega (arith))))
 
 pub returns : goal.returns
 returns t c = walks.finish _ c.loop-child.invariant.1 c.in-None.ensures.steps

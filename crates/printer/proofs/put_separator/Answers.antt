@@ -1,5 +1,4 @@
-use Rattle.std.proofs.Common.{sym, ap, ◌∙◌, length, arith}
-use Rattle.fields.proofs.Appends as appends
+use Rattle.std.proofs.Common.{ap, length, arith}
 use Rattle.printer.proofs.Parts.{and_sign, or_sign, xor_sign}
 use Rattle.printer.proofs.put_separator.Goals as goal
 

@@ -8,7 +8,7 @@ use Rattle.text.proofs.tail.Goals as goal
 
 pub returns : goal.returns
 returns c = let a = c.args in
-    let n = c.capped-at.result in
+    let n = c.min.result in
     take_all (length a.s.now - n) (drop n a.s.now) (le_of_eq (length-drop n a.s.now))
-    ∙ ap (λ (k : ℕ). drop k a.s.now) c.capped-at.ensures
+    ∙ ap (λ (k : ℕ). drop k a.s.now) c.min.ensures
     ∙ drop_capped a.from a.s.now

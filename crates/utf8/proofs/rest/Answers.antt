@@ -1,8 +1,8 @@
-use Prim.Native.Nat.{◌+◌, ◌-◌, ◌*◌}
+use Prim.Native.Nat.{◌+◌, ◌-◌}
 use mathlib.Core.Path.{◌≡◌, sym, ap, ◌∙◌}
 use lib.ListN.{drop, get_or}
 use native.Mathlib.Omega.{arith}
-use Rattle.utf8.specs.Utf8.{char_of, code_of}
+use Rattle.utf8.specs.Utf8.{char_of}
 use Rattle.utf8.proofs.Walk.{code_past, code_low, code_high, code_next, code_done, cap_now, cap_next}
 use Rattle.utf8.proofs.rest.Goals as goal
 use Rattle.utf8.proofs.rest.Goals.{then-b-from-via-then-b-from, then-b-from-via-else-b-from+then-to-b}

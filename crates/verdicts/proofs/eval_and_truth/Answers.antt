@@ -17,9 +17,6 @@ returns-in_err-admit c = let p = err_from_is_err_and c.from_residual-in_err-admi
     rw (p.1, p.2, ← c.in_ok-tree.ensures)
     (both_turned _ _ _ c.in_ok-tree.tree.tested (sym c.answers_fit.ensures ∙ c.if-not-answers_fit.false) _ (λ r. admitted_refused value_limit c.args.value.now c.admit.ensures c.in_err-admit.was r))
 
-pub eval_tree-requires : goal.eval_tree-requires
-eval_tree-requires c = sym c.answers_fit.ensures ∙ c.if-not-answers_fit.false
-
 pub returns-in_err-found : goal.returns-in_err-found
 returns-in_err-found c = let p = err_from_is_err_and c.from_residual-in_err-found.result c.from_residual-in_err-found.ensures.1 in
     rw (p.1, p.2, ← c.in_ok-tree.ensures)

@@ -1,7 +1,4 @@
-use Prim.Native.Nat.{◌≤◌}
 use native.Mathlib.Omega.{arith}
-use lib.ListN.{length}
-use lib.Seq.{length-take-le}
 use Rattle.std.proofs.lemmas.Result.{err_from_is_err_and}
 use Rattle.utf8.specs.Limits.{value_limit}
 use Rattle.utf8.proofs.Limits.{admitted_fine, admitted_refused}
@@ -26,15 +23,6 @@ returns-then-ne c = rw (← c.in_ok-tree.ensures) (violations-not c.in_ok-tree.t
 
 pub returns-then-out-judged : goal.returns-then-out-judged
 returns-then-out-judged c = rw (← c.in_ok-tree.ensures) (violations_short c.in_ok-tree.tree.bytes.now c.args.value.now c.in_ok-tree.tree.tested _ _ (λ r. admitted_fine value_limit c.args.value.now c.admit.ensures c.in_ok-admit.was r) c.judge_row-judged.ensures (said_other _ c.ne.ensures c.if-ne.false) (omega arith))
-
-pub slice_bounds-list-end : goal.slice_bounds-list-end
-slice_bounds-list-end c = omega (arith, list_room c.args.value.now c.in_ok-tree.tree.bytes.now c.in_ok-tree.tree.tested, c.judge_row-judged.ensures.written.ends)
-
-pub slice_bounds-put_text-end : goal.slice_bounds-put_text-end
-slice_bounds-put_text-end c = let p : c.judge_row-judged.result.at ≤ length c.judge_row-judged.new.list = omega (arith, list_room c.args.value.now c.in_ok-tree.tree.bytes.now c.in_ok-tree.tree.tested, c.judge_row-judged.ensures.written.ends, c.judge_row-judged.auto.list) in omega (arith, length-take-le c.judge_row-judged.result.at c.judge_row-judged.new.list p)
-
-pub put_text-requires : goal.put_text-requires
-put_text-requires c = let p : c.judge_row-judged.result.at ≤ length c.judge_row-judged.new.list = omega (arith, list_room c.args.value.now c.in_ok-tree.tree.bytes.now c.in_ok-tree.tree.tested, c.judge_row-judged.ensures.written.ends, c.judge_row-judged.auto.list) in omega (arith, length-take-le c.judge_row-judged.result.at c.judge_row-judged.new.list p)
 
 pub returns : goal.returns
 returns c = rw (← c.in_ok-tree.ensures) (violations_done c.in_ok-tree.tree.bytes.now c.args.value.now c.in_ok-tree.tree.tested _ _ (λ r. admitted_fine value_limit c.args.value.now c.admit.ensures c.in_ok-admit.was r) c.judge_row-judged.ensures (said_other _ c.ne.ensures c.if-ne.false) (omega arith) c.put_text.ensures)

@@ -2,7 +2,6 @@ use native.Mathlib.Omega.{arith}
 use Rattle.fields.proofs.Appends as appends
 use mathlib.Core.Path.{sym, ap}
 use lib.ListN.{length}
-use lib.Seq.{take_all}
 use Prim.Native.Nat.{◌+◌}
 use Rattle.writer.proofs.Rows.{cites_none, texts_none, cites-next, size_all, size_next}
 use Rattle.writer.proofs.put_cites.Goals as goal
@@ -38,6 +37,3 @@ loop-place-preserved c = let a = c.args in
           appends.same (cites-next a.text.now a.places.now l.place-index _ _ (omega arith) s.offset (ap length c.cut_at-size.ensures))
           (appends.both s.written (appends.both c.put16-w.ensures c.put16-w-in-loop-place.ensures));
     }
-
-pub returns : goal.returns
-returns c = rw (take_all c.loop-place.place-index c.args.places.now (omega arith)) at c.loop-place.invariant.written

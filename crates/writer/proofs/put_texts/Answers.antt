@@ -2,7 +2,6 @@ use native.Mathlib.Omega.{arith}
 use Rattle.fields.proofs.Appends as appends
 use mathlib.Core.Path.{sym, ap}
 use lib.ListN.{length}
-use lib.Seq.{take_all}
 use Prim.Native.Nat.{◌+◌}
 use Rattle.writer.proofs.Rows.{texts_none, texts-next, size_all, size_next}
 use Rattle.writer.proofs.put_texts.Goals as goal
@@ -19,6 +18,3 @@ pub loop-place-preserved : goal.loop-place-preserved
 loop-place-preserved c =
     appends.same (texts-next c.args.text.now c.args.places.now c.loop-place.place-index (omega arith))
     (appends.both c.loop-place.invariant (appends.same c.cut_at.ensures c.put_text-w.ensures))
-
-pub returns : goal.returns
-returns c = rw (take_all c.loop-place.place-index c.args.places.now (omega arith)) at c.loop-place.invariant

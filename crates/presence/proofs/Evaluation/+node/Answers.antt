@@ -11,9 +11,6 @@ use Rattle.presence.proofs.Evaluation.+node.Goals as goal
 pub returns-then-mixed : goal.returns-then-mixed
 returns-then-mixed t c = mixed_answer _ c.args.self.now.answers.now c.args.row _ c.kind_at-kind.ensures (sym c.mixed.ensures ∙ c.if-mixed.true)
 
-pub children-at-items-requires : goal.children-at-items-requires
-children-at-items-requires t c = c.requires
-
 pub loop-at-init : goal.loop-at-init
 loop-at-init t c =
     let it = c.children-at-items.ensures in

@@ -6,9 +6,6 @@ use Rattle.presence.proofs.Marks.{said_gating, said_kept}
 use Rattle.presence.proofs.Walks.{mixing_begins, mixing_from, mixing_turns, mixing_gated, mixing_open, no_choice, ready_marked}
 use Rattle.presence.proofs.Evaluation.mixed.Goals as goal
 
-pub children-child-items-requires : goal.children-child-items-requires
-children-child-items-requires c = (c.requires.0, λ q. no_choice _ (c.requires.1 ∙ q) (sym c.is_choice.ensures ∙ c.if-not-is_choice.false))
-
 pub loop-child-init : goal.loop-child-init
 loop-child-init c =
     let it = c.children-child-items.ensures in

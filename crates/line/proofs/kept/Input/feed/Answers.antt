@@ -1,4 +1,4 @@
-use Rattle.std.proofs.Common.{rules, arith}
+use Rattle.std.proofs.Common.{arith}
 use Rattle.std.proofs.lemmas.Grind.{common_steps}
 use Rattle.line.specs.Input.{fed}
 use Rattle.line.proofs.kept.Input.feed.Goals as goal

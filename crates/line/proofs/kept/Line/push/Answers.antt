@@ -1,4 +1,4 @@
-use Rattle.std.proofs.Common.{arith, ◌≡◌, ◌∙◌, ◌<◌, ◌≤◌, sym, ap}
+use Rattle.std.proofs.Common.{arith, ◌∙◌, sym, ap}
 use Rattle.line.specs.Input.{longer}
 use Rattle.line.proofs.Inputs.{longer_kept, longer_full}
 use Rattle.line.proofs.kept.Line.push.Goals as goal
