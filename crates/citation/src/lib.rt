@@ -131,7 +131,8 @@ impl ConditionKind {
     }
 }
 
-// How often a Paket's code may stand: at least low, and at most high if there is one. The Paket's name is the first `name` bytes.
+// How often a Paket's code may stand: at least low, and at most high if there is one. The Paket's name is the first `name` bytes: a number, so that
+// what was parsed outlives the text, as the original's does.
 #[derive(Clone, Copy)]
 pub struct Paket {
     pub name: usize,

@@ -225,7 +225,8 @@ fn find_end(text: &[u8], at: usize) -> usize
     at.max(text.len())
 }
 
-// Where the citation's text ends that begins at `at`.
+// Where the citation's text ends that begins at `at`. That what is left of the text is UTF-8 stands in clauses, here and where tokens are read: a type of what is left would be made
+// anew at each step.
 fn close_at(text: &[u8], at: usize) -> Result<usize, Refusal>
     requires { (at ≤ length text.now) × (is_utf8 (drop at text.now) ≡ true) }
     ensures { Closes text.now at result }

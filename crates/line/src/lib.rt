@@ -181,7 +181,7 @@ fn put_cited(tree: Tree, number: usize, out: &mut [u8], at: usize) -> usize
     put_text(tree.text_at(number), out, from)
 }
 
-// The same of so many citations, whose numbers stand in a list.
+// The same of so many citations, whose numbers stand in a list: a count beside it, as the definition `numbers_from` has it, where a shorter list would be halved again.
 fn put_named(tree: Tree, list: &[u8], count: usize, out: &mut [u8], at: usize) -> usize
     requires { (2 * count ≤ length list.now) × AllBelow (cites tree.bytes.now) (numbers_from list.now count 0) × (at + length (named (texts_in tree.bytes.now) (numbers_from list.now count 0)) ≤ length out.old) }
     ensures { Appended (named (texts_in tree.entry.bytes.now) (numbers_from list.now count 0)) at out.old out.new result }

@@ -127,7 +127,7 @@ fn grow(work: &mut [Row], start: usize, q: Pos, op: NodeKind) -> Pos
     }
 }
 
-// One token on.
+// One token on. That a place is within a text's limit stands in clauses, here and where operators are passed: as a type's fact it would be proved at each place that is made.
 fn past_token(q: Pos) -> Pos
     requires { q.at ≤ text_limit }
     ensures { result ≡ past q q.kind q.rows q.kids }

@@ -376,7 +376,7 @@ impl<'a> Iterator for Children<'a> {
     }
 }
 
-// Where the text of a citation stands.
+// Where the text of a citation stands: two numbers, as the definition has them, since the bytes are the caller's.
 pub fn cited(tree: &[u8], number: usize) -> Result<Option<(usize, usize)>, Refusal>
     ensures { result ≡ cited_answer tree.now number }
 {

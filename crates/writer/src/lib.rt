@@ -86,7 +86,7 @@ fn put_rows<R: TreeRow>(rows: &[R], out: &mut [u8], at: usize) -> usize
     w
 }
 
-// The citation rows of the texts at places.
+// The citation rows of the texts at places. Text and places are two parameters: both are lent, one is read whole and the other a place at a time.
 fn put_cites(text: &[u8], places: &[Place], out: &mut [u8], at: usize) -> usize
     requires { (at + cite_size * length places.now ≤ length out.old) × (length (concat (cuts text.now places.now)) < 65536) }
     ensures { Appended (cite_bytes 0 (cuts text.now places.now)) at out.old out.new result }
