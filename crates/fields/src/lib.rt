@@ -2,7 +2,7 @@
 
 #![tactic(auto)]
 
-ghost use Rattle.std.specs.Prelude.{◌≡◌, [], ◌∷◌, ◌+◌, ◌≤◌, ◌<◌, length, map, take};
+ghost use Rattle.std.specs.Prelude.{◌≡◌, [], ◌∷◌, ◌+◌, ◌≤◌, ◌<◌, length, map, take, drop};
 ghost use Rattle.grammar.specs.Bytes.{field, two_bytes};
 ghost use Rattle.fields.specs.Appended.{Appended};
 
@@ -15,7 +15,7 @@ pub fn get16(s: &[u8], at: usize) -> usize
 }
 
 // One byte; the answer is the place after it, here and below. Buffer and place stay two parameters: as one struct, with methods, they were tried here and in printer, and
-// printing the table took 1.7 times as long, where the bar is a tenth on the table of lines. The crates above use these functions, so they have the same form: a struct for those that are not measured would be a twin of each.
+// printing the table took 1.7 times as long, where one form may cost a tenth. The crates above use these functions, so they have the same form: a struct for those that are not measured would be a twin of each.
 pub fn put_byte(out: &mut [u8], at: usize, b: u8) -> usize
     requires { at + 1 ≤ length out.old }
     ensures { Appended (b ∷ []) at out.old out.new result }
@@ -42,10 +42,11 @@ pub fn put_text(text: &[u8], out: &mut [u8], at: usize) -> usize
     end
 }
 
-// What `made` makes of each item, at the front of `out`.
+// What `made` makes of each item, at the front of `out`; behind it stays what stood there.
 pub fn map_into<A: Copy, B: Copy, F: Fn(A) -> B>(items: &[A], out: &mut [B], made: F)
     requires { F.IsAlwaysCallable made × (length items.now ≤ length out.old) }
     ensures front { (of : A → B) → ((item : A) (b : B) → F.post made item b → b ≡ of item) → take (length items.now) out.new ≡ map of items.now }
+    ensures rest { drop (length items.now) out.new ≡ drop (length items.now) out.old }
     ensures size { length out.new ≡ length out.old }
 {
     for (i, item) in items.iter().enumerate() {

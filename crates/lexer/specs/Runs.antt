@@ -40,7 +40,7 @@ first_word s = record { from = run_end true s 0; end = run_end false s (run_end 
 
 -- what `Words` gives at a place, and the place after it: the part after white space and before the next; nothing where that is empty
 abbrev pub NextWord : List ℕ → ℕ → Option Span → ℕ → Type 0
-NextWord s at None next = run_end false s (run_end true s at) ≡ run_end true s at
+NextWord s at None next = (run_end false s (run_end true s at) ≡ run_end true s at) × (next ≡ at)
 NextWord s at (Some word) next = (word.from ≡ run_end true s at) × (word.end ≡ run_end false s word.from) × (word.from < word.end) × (next ≡ word.end)
 
 -- what is written between n bytes of joined words and the next word

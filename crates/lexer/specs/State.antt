@@ -63,7 +63,7 @@ token_end (Cite from end) = end + 1
 
 -- what `Tokens` gives at a place, and the place after it; a refusal is the last
 abbrev pub NextToken : List ℕ → ℕ → Option (Result Token Refusal) → ℕ → Type 0
-NextToken s at None next = length s ≤ at
+NextToken s at None next = (length s ≤ at) × (next ≡ at)
 NextToken s at (Some (Ok token)) next = (at < length s) × Begins s at (Ok token) × (next ≡ token_end token)
 NextToken s at (Some (Err why)) next = Begins s at (Err why) × (next ≡ length s)
 

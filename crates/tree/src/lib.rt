@@ -357,8 +357,8 @@ pub struct Children<'a> {
 impl<'a> Iterator for Children<'a> {
     type Item = usize;
 
-    // The next child's row, and then the rows after its subtree are left; nothing if none is left.
-    ghost next_gives = { λ old given new. MatchOption given (old.left ≡ 0) (λ child. (child ≡ old.row) × (0 < old.left) × (new.tree.bytes.now ≡ old.tree.bytes.now) × (new.row ≡ child + span (tree_at old.tree.bytes.now child)) × (new.left ≡ old.left - 1)) };
+    // The next child's row, and then the rows after its subtree are left; nothing if none is left, and then all stays.
+    ghost next_gives = { λ old given new. MatchOption given ((old.left ≡ 0) × (new.tree.bytes.now ≡ old.tree.bytes.now) × (new.row ≡ old.row) × (new.left ≡ old.left)) (λ child. (child ≡ old.row) × (0 < old.left) × (new.tree.bytes.now ≡ old.tree.bytes.now) × (new.row ≡ child + span (tree_at old.tree.bytes.now child)) × (new.left ≡ old.left - 1)) };
 
     ghost remaining = { λ c. at_most c.left };
 

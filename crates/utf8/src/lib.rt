@@ -105,8 +105,7 @@ fn all_ascii(s: &[u8]) -> bool
     s.is_ascii()
 }
 
-// A walker over a lent text: it carries the text and the number of the next byte, and gives its characters, each with the place where it begins; a byte that
-// fits none has no code and is the last.
+// Goes over the characters of a text from a place on, each given with the place where it begins; a byte that fits none has no code and is the last.
 #[derive(Clone, Copy)]
 pub struct Walker<'a> {
     pub text: &'a [u8],

@@ -25,7 +25,7 @@ fn cut_at(text: &[u8], place: Place) -> &[u8]
 
 // What a tree's row is written from.
 pub trait TreeRow: Copy {
-    // The row.
+    // The row that it stands for.
     ghost stands_for: { Self → grammar_rows.Row };
 
     // The number of its kind, its number, and the rows in its subtree.

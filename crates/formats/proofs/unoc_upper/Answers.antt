@@ -18,4 +18,4 @@ loop-code-preserved c =
     rw (n.0, n.1.1.2) (upper_next it.text.now it.at _ _ n.1.1.1 (sym c.is_unoc_upper.ensures ∙ c.if-not-is_unoc_upper.false) ∙ c.loop-code.invariant)
 
 pub returns : goal.returns
-returns c = upper_nil _ c.in-None.ensures.steps.1 ∙ c.loop-code.invariant
+returns c = upper_nil _ c.in-None.ensures.steps.1.0 ∙ c.loop-code.invariant

@@ -22,5 +22,5 @@ loop-word-preserved c =
 pub returns : goal.returns
 returns c =
     let i = c.loop-word.invariant in
-    let d = joining_end i.2 (rw i.0 at c.in-None.ensures.steps.1) in
+    let d = joining_end i.2 (rw i.0 at c.in-None.ensures.steps.1).0 in
     record { value = d.0; out_after = d.1 }

@@ -29,4 +29,4 @@ loop-token-preserved c =
 pub returns : goal.returns
 returns c =
     let i = c.loop-token.invariant in
-    state_on i.3 c.args.kinds.now c.args.places.now i.2 i.4 i.5 (rw i.0 at c.in-None.ensures.steps.1)
+    state_on i.3 c.args.kinds.now c.args.places.now i.2 i.4 i.5 (rw i.0 at c.in-None.ensures.steps.1).0

@@ -37,6 +37,6 @@ returns g c w t =
     let i = c.loop-place.invariant in
     let s = c.args.text.now in
     let at = c.loop-place.place-iterator.at in
-    let e = ap length (step_end _ (rw i.0 at c.in-None.ensures.steps.1)) in
+    let e = ap length (step_end _ (rw i.0 at c.in-None.ensures.steps.1).0) in
     let k : length s ≤ at = omega (arith, e, length-drop at s) in
     omega (arith, k, i.1, i.2, run_out w s at k, i.3 w t)

@@ -32,4 +32,4 @@ loop-child-preserved c =
     (g.2 ∙ i.0, rw (g.4, g.3, i.0) (marking_turns _ c.args.tree.tested _ _ _ _ _ c.requires.1 (marking_from i.1 g.0) g.1 _ (c.max-mark.ensures ∙ said_larger c.loop-child.mark (get_or c.args.marks.now c.in-Some.child Dropped))))
 
 pub returns : goal.returns
-returns c = marking_ends _ _ _ _ _ c.loop-child.invariant.1 (omega (arith, c.in-None.ensures.steps))
+returns c = marking_ends _ _ _ _ _ c.loop-child.invariant.1 (omega (arith, c.in-None.ensures.steps.0))

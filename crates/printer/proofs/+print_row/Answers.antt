@@ -66,4 +66,4 @@ loop-child-preserved t c =
     (g.2 ∙ i.0, rw (g.4, g.3, i.0) (walks.again _ c.args.tree.tested (walks.state_from i.1 g.0) g.1 _ c.kind_at-inner.ensures c.put_separator-w.ensures c.put_paren-w.ensures c.print_row-w.ensures c.put_paren-w-in-loop-child.ensures (omega (arith))))
 
 pub returns : goal.returns
-returns t c = walks.finish _ c.loop-child.invariant.1 c.in-None.ensures.steps
+returns t c = walks.finish _ c.loop-child.invariant.1 c.in-None.ensures.steps.0

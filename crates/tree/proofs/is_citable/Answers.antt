@@ -24,4 +24,4 @@ loop-code-preserved c =
     rw (n.0, n.1.1.2, c.if-blank.false) (citable-next false _ _ _ _ n.1.1.1 c.if-code-eq93.false ∙ rw c.if-blank.false at c.loop-code.invariant)
 
 pub returns : goal.returns
-returns c = citable_end _ _ (step_end _ c.in-None.ensures.steps.1) ∙ c.loop-code.invariant
+returns c = citable_end _ _ (step_end _ c.in-None.ensures.steps.1.0) ∙ c.loop-code.invariant

@@ -23,7 +23,7 @@ returns-in-None-code c =
 pub returns : goal.returns
 returns c =
     let i = c.loop-code.invariant in
-    let e = step_end _ (rw i.0 at c.in-None.ensures.steps.1) in
+    let e = step_end _ (rw i.0 at c.in-None.ensures.steps.1).0 in
     let u : is_utf8 c.args.s.now ≡ true = sym i.1 ∙ ap is_utf8 e ∙ utf8_nil in
     let k : c.loop-code.chars ≡ char_count c.args.s.now = omega (arith, i.2, ap char_count e ∙ count_nil) in
     rw u cc

@@ -34,4 +34,4 @@ loop-child-preserved t c =
     (g.2 ∙ i.0, rw (g.4, g.3, i.0) (laws.state_again c.args.value.now c.args.tree.bytes.now c.args.tree.tested (laws.state_from i.1 g.0) g.1 _ c.judge_row-here.ensures c.judge_row-here.auto.list c.add-tally.ensures))
 
 pub returns : goal.returns
-returns t c = laws.state_ends c.args.value.now c.args.tree.bytes.now c.args.tree.tested c.loop-child.invariant.1 (omega (arith, c.in-None.ensures.steps)) _ c.kind_at-kind.ensures (same_false kinds _ _ (sym c.eq.ensures ∙ c.if-eq.false)) _ c.node_truth.ensures refl
+returns t c = laws.state_ends c.args.value.now c.args.tree.bytes.now c.args.tree.tested c.loop-child.invariant.1 (omega (arith, c.in-None.ensures.steps.0)) _ c.kind_at-kind.ensures (same_false kinds _ _ (sym c.eq.ensures ∙ c.if-eq.false)) _ c.node_truth.ensures refl

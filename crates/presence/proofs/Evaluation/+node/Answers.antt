@@ -88,4 +88,4 @@ loop-at-preserved t c =
     )
 
 pub returns : goal.returns
-returns t c = ap Ok c.rule.ensures ∙ evaluating_ends _ _ _ _ _ _ _ c.loop-at.invariant.1 (omega (arith, c.in-None.ensures.steps))
+returns t c = ap Ok c.rule.ensures ∙ evaluating_ends _ _ _ _ _ _ _ c.loop-at.invariant.1 (omega (arith, c.in-None.ensures.steps.0))

@@ -24,7 +24,7 @@ loop-child-preserved c =
     (g.2 ∙ i.0, rw (g.4, g.3, i.0) (mixing_turns _ c.args.self.now.tree.tested _ _ _ _ _ _ (ready_marked _ _ c.args.row _ c.args.self.now.ready c.requires.0 c.requires.1 (sym c.is_choice.ensures ∙ c.if-not-is_choice.false)) (mixing_from i.1 g.0) g.1 _ _ (ap (λ x. c.loop-child.gate || x) (c.eq-gate.ensures ∙ said_gating _)) (ap (λ x. c.loop-child.free || x) (c.eq-free.ensures ∙ said_kept _))))
 
 pub returns-then-gate : goal.returns-then-gate
-returns-then-gate c = rw (sym c.is_choice.ensures ∙ c.if-not-is_choice.false) (mixing_gated _ _ _ _ _ _ c.loop-child.invariant.1 (omega (arith, c.in-None.ensures.steps)) c.if-gate.true)
+returns-then-gate c = rw (sym c.is_choice.ensures ∙ c.if-not-is_choice.false) (mixing_gated _ _ _ _ _ _ c.loop-child.invariant.1 (omega (arith, c.in-None.ensures.steps.0)) c.if-gate.true)
 
 pub returns-else-gate : goal.returns-else-gate
-returns-else-gate c = rw (sym c.is_choice.ensures ∙ c.if-not-is_choice.false) (mixing_open _ _ _ _ _ _ c.loop-child.invariant.1 (omega (arith, c.in-None.ensures.steps)) c.if-gate.false)
+returns-else-gate c = rw (sym c.is_choice.ensures ∙ c.if-not-is_choice.false) (mixing_open _ _ _ _ _ _ c.loop-child.invariant.1 (omega (arith, c.in-None.ensures.steps.0)) c.if-gate.false)
