@@ -2,7 +2,7 @@
 
 use crate::model::reading::{Token, after_word, tokens};
 use crate::model::tree::Node;
-use crate::model::{self, is_900};
+use crate::model::{self, is_900, is_boundary, is_other_form};
 use crate::oracle::{self, Answer, Origin};
 use crate::request::{self, BAD_REQUEST, Function};
 
@@ -29,8 +29,26 @@ pub struct Asked {
     pub model: Model,
 }
 
-/// What cites a number equal to 900 is the model's: the original has 900 among the Format numbers.
-const NINE_HUNDRED: [Rule; 3] = [
+/// UB1, UB2 and UB3 on a value that is not in full form are the model's: the original asks less of a value.
+/// The first rule that covers a request counts.
+const RULES: [Rule; 7] = [
+    Rule { reason: "UB1 to UB3 on a value not in full form", covers: boundary_alone, still: Some(was_held) },
+    Rule {
+        reason: "format truth where UB1 to UB3 meet a value not in full form, and 900 is cited",
+        covers: |function, fields| boundary_truth(function, fields) && truth_with_900(function, fields),
+        still: Some(stays_false),
+    },
+    Rule {
+        reason: "format truth where UB1 to UB3 meet a value not in full form",
+        covers: boundary_truth,
+        still: Some(was_higher),
+    },
+    Rule {
+        reason: "violations where UB1 to UB3 meet a value not in full form",
+        covers: boundary_violations,
+        still: Some(listed_more),
+    },
+    // What cites a number equal to 900 is the model's: the original has 900 among the Format numbers.
     Rule { reason: "the kind of a number equal to 900", covers: kind_of_900, still: Some(was_format) },
     Rule { reason: "format truth where 900 is cited", covers: truth_with_900, still: Some(was_unknown) },
     Rule {
@@ -40,7 +58,25 @@ const NINE_HUNDRED: [Rule; 3] = [
     },
 ];
 
-pub const ASKED: Asked = Asked { rules: &NINE_HUNDRED, model: model::answer };
+pub const ASKED: Asked = Asked { rules: &RULES, model: model::answer };
+
+fn boundary_alone(function: Function, fields: &[&[u8]]) -> bool {
+    function == Function::Evaluate && is_boundary(fields[0]) && is_other_form(fields[1])
+}
+
+fn boundary_truth(function: Function, fields: &[&[u8]]) -> bool {
+    function == Function::Truth && is_other_form(fields[1]) && tree_cites_boundary(fields[0])
+}
+
+fn boundary_violations(function: Function, fields: &[&[u8]]) -> bool {
+    function == Function::Violations && is_other_form(fields[1]) && tree_cites_boundary(fields[0])
+}
+
+fn tree_cites_boundary(tree: &[u8]) -> bool {
+    tree.windows(2).any(|two| two == b"UB")
+        && Node::of_bytes(tree)
+            .is_some_and(|node| node.texts().into_iter().any(|text| is_boundary(text.as_bytes())))
+}
 
 fn kind_of_900(function: Function, fields: &[&[u8]]) -> bool {
     function == Function::Kind && is_900(fields[0])
@@ -99,6 +135,30 @@ fn was_format(model: &Answer, original: &Answer) -> bool {
 /// As the original's, or True where that is Unknown.
 fn was_unknown(model: &Answer, original: &Answer) -> bool {
     model == original || said(model, "2") && said(original, "1")
+}
+
+/// Violated, whatever the original says.
+fn was_held(model: &Answer, original: &Answer) -> bool {
+    said(model, "V") && (said(original, "H") || said(original, "V"))
+}
+
+/// False where the original's is.
+fn stays_false(model: &Answer, original: &Answer) -> bool {
+    said(model, "0") || !said(original, "0")
+}
+
+/// As the original's, or lower.
+fn was_higher(model: &Answer, original: &Answer) -> bool {
+    model == original || said(model, "0") || said(model, "1") && said(original, "2")
+}
+
+/// What the original lists, in its order, and maybe more; or a refusal for a buffer that is too short.
+fn listed_more(model: &Answer, original: &Answer) -> bool {
+    let (Ok((_, model)), Ok((_, original))) = (model, original) else {
+        return model.is_err();
+    };
+    let mut listed = model.chunks(2);
+    original.chunks(2).all(|number| listed.any(|one| one == number))
 }
 
 impl Asked {
@@ -176,7 +236,7 @@ mod tests {
 
     #[test]
     fn nine_hundred_is_taken_out() {
-        let [kind, truth, other] = NINE_HUNDRED.map(|rule| rule.reason);
+        let [.., kind, truth, other] = RULES.map(|rule| rule.reason);
         for spelt in ["393030", "30393030", "2b393030"] {
             assert_eq!(said(ASKED, &format!("kind {spelt}")), (Ok(Origin::Model(kind)), "6".to_owned()));
         }
@@ -188,6 +248,45 @@ mod tests {
         assert_eq!(ASKED.ask(Function::Cited, &[&tree]), due(other, "30393030,393032"));
         assert_eq!(ASKED.ask(Function::Expr, &[b"[900] [", b""]), Ok((Err(2), Origin::Model(other))));
         assert_eq!(ASKED.ask(Function::Status, &[b"M [900]", b""]), Ok((Err(14), Origin::Model(other))));
+    }
+
+    #[test]
+    fn a_day_boundary_not_in_full_form_is_taken_out() {
+        let [alone, both, truth, listed, ..] = RULES.map(|rule| rule.reason);
+        let due = |reason, word: &str| Ok((Ok((word.to_owned(), Vec::new())), Origin::Model(reason)));
+        for id in [b"UB1", b"UB2", b"UB3"] {
+            for value in ["202607012200draft+00", "2026+7012200+00", "-00002292300+00", "", "é"] {
+                assert_eq!(
+                    ASKED.ask(Function::Evaluate, &[id, value.as_bytes()]),
+                    due(alone, "V"),
+                    "{value}"
+                );
+            }
+        }
+        let tree = |text| expression(text).expect("an expression").bytes();
+        let value = b"202607012200draft+00";
+        assert_eq!(ASKED.ask(Function::Truth, &[&tree("[UB1] ∧ [900]"), value]), due(both, "0"));
+        assert_eq!(ASKED.ask(Function::Truth, &[&tree("[UB3] ∨ [UB4]"), value]), due(truth, "1"));
+        let said = ASKED.ask(Function::Violations, &[&tree("[900] ∧ [902] ∧ [UB1]"), value, &[9; 4]]);
+        assert_eq!(said, Ok((Ok(("ok 2".to_owned(), vec![1, 0, 2, 0])), Origin::Model(listed))));
+    }
+
+    #[test]
+    fn one_in_full_form_is_not() {
+        let tree = expression("[UB1]").expect("an expression").bytes();
+        let value = &b"202607012200+00"[..];
+        for (function, first) in
+            [(Function::Evaluate, &b"UB1"[..]), (Function::Truth, &tree), (Function::Violations, &tree)]
+        {
+            let said = ASKED.ask(function, &[first, value, b""][..if function.lends() { 3 } else { 2 }]);
+            assert_eq!(said.map(|(_, origin)| origin), Ok(Origin::Time));
+        }
+        for value in [&[b'1'; 1_025][..], b"\xff"] {
+            let said = ASKED.ask(Function::Evaluate, &[b"UB1", value]);
+            assert_eq!(said.map(|(_, origin)| origin), Ok(Origin::Paper));
+        }
+        let others = ASKED.ask(Function::Evaluate, &[b"UB4", b"x"]);
+        assert_eq!(others.map(|(_, origin)| origin), Ok(Origin::Rust));
     }
 
     #[test]

@@ -15,6 +15,7 @@ pub fn examples(known: &[Function]) -> Vec<Example> {
     kinds(&mut all);
     pakets(&mut all);
     verdicts(&mut all);
+    boundaries(&mut all);
     registered(&mut all);
     readings(&mut all);
     statuses(&mut all);
@@ -130,6 +131,31 @@ fn verdicts(all: &mut Examples) {
     say(all, Function::Evaluate, &[b"\xff", &[b'1'; 1_025]], "refused 11");
 }
 
+/// UB1, UB2 and UB3 in turn: values in full form, and others, which are Violated.
+fn boundaries(all: &mut Examples) {
+    let due = [
+        ("202607012200+00", "HVH"),
+        ("202601012300+00", "HVH"),
+        ("202607010400+00", "VHH"),
+        ("202601010500+00", "VHH"),
+        ("000002292300+00", "HVH"),
+        ("202607011200+00", "VVV"),
+        ("202602302300+00", "VVV"),
+        ("202607012260+00", "VVV"),
+    ];
+    let others = [
+        "202607012200draft+00", "20260701220+00", "2026070122000+00", "+02607012200+00", "-02607012200+00",
+        "-00002292300+00", "2026+7012200+00", "2026-7012200+00", "202607+12200+00", "202607-12200+00",
+        "20260701+400+00", "20260701-400+00", "2026070122+0+00", "2026070122-0+00", "202607é2200+00",
+        "2026070122é+00", "202607012200é0", "202607012200+01", "202607012200-00", "",
+    ];
+    for (value, answers) in due.into_iter().chain(others.map(|value| (value, "VVV"))) {
+        for (text, answer) in ["UB1", "UB2", "UB3"].into_iter().zip(answers.chars()) {
+            say(all, Function::Evaluate, &[text.as_bytes(), value.as_bytes()], &answer.to_string());
+        }
+    }
+}
+
 fn registered(all: &mut Examples) {
     for (text, answer) in [("902", "1"), ("0902", "0"), ("UB3", "1"), ("UB4", "0"), ("922", "0")] {
         say(all, Function::Registered, &[text.as_bytes()], answer);
@@ -242,6 +268,17 @@ fn judgements(all: &mut Examples) {
     say(all, Function::Violations, &[&program, b"0", &[9; 5]], "ok 2 0100030009");
     say(all, Function::Violations, &[&program, b"0", &[9; 3]], "refused 14 090909");
     nine_hundred(all);
+    not_in_full_form(all);
+}
+
+/// A value that violates UB1 since it is not in full form, and ends `+00`.
+fn not_in_full_form(all: &mut Examples) {
+    let joined = |kind| tree(&[(kind, 2, 3), (0, 0, 1), (0, 1, 1)], &["931", "UB1"]);
+    for value in ["202607012200draft+00", "2026+7012200+00"] {
+        say(all, Function::Truth, &[&joined(2), value.as_bytes()], "0");
+        say(all, Function::Truth, &[&joined(3), value.as_bytes()], "2");
+        say(all, Function::Violations, &[&joined(2), value.as_bytes(), &[9; 3]], "ok 1 010009");
+    }
 }
 
 /// 900 is of kind Other: it neither gates nor is judged.

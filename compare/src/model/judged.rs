@@ -1,6 +1,8 @@
-//! Presence, package rows, format truth and violations of a tree (docs/SEMANTICS.md). What a condition says of a value by
-//! itself, and the bounds that a Paket's text has, are asked of the original: only kinds are the model's.
+//! Presence, package rows, format truth and violations of a tree (docs/SEMANTICS.md). The bounds that a Paket's text has, and
+//! what a condition says of a value by itself, are asked of the original: only kinds are the model's, and that day boundaries
+//! are written in full form.
 
+use super::is_boundary;
 use super::kinds::{Kind, kind};
 use super::tree::{Node, Sign};
 use crate::oracle::refusal::{CHOICE_OVER_NEUTRAL, FAILED_ANSWER};
@@ -61,10 +63,18 @@ fn gates(node: &Node) -> bool {
     node.texts().into_iter().any(|text| matches!(kind(text), Kind::Voraussetzung | Kind::Paket))
 }
 
+/// Whether a value is 15 bytes, the first 12 of them ASCII digits, ending `+00`.
+pub fn is_full_form(value: &str) -> bool {
+    value.len() == 15 && value.bytes().take(12).all(|b| b.is_ascii_digit()) && value.ends_with("+00")
+}
+
 /// What a citation counts as on a value.
 fn counts(text: &str, value: &str) -> Truth {
     if !matches!(kind(text), Kind::Format | Kind::Zeitpunkt) {
         return True;
+    }
+    if is_boundary(text.as_bytes()) && !is_full_form(value) {
+        return False;
     }
     match formatbedingung::evaluate(text, value) {
         FormatVerdict::Holds => True,
@@ -173,6 +183,24 @@ mod tests {
             pakete(&tree("[1] [XP1..2] [7P]")),
             [[2, 0].into_iter().chain([0; 17]).collect::<Vec<u8>>()]
         );
+    }
+
+    #[test]
+    fn full_form() {
+        for value in ["202607012200+00", "000000000000+00", "999999999999+00"] {
+            assert!(is_full_form(value), "{value}");
+        }
+        let others = [
+            "20260701220+00", "2026070122000+00", "202607012200+01", "202607012200-00", "+02607012200+00",
+            "-02607012200+00", "2026+7012200+00", "202607+12200+00", "20260701+400+00", "2026070122+0+00",
+            "202607é2200+00", "2026070122é+00", "",
+        ];
+        for value in others {
+            assert!(!is_full_form(value), "{value}");
+        }
+        assert_eq!(format_truth(&tree("[UB1] ∨ [UB4]"), "202607012200draft+00"), Unknown);
+        assert_eq!(format_truth(&tree("[UB1]"), "202607012200+00"), True);
+        assert_eq!(violations(&tree("[UB1] ∧ [931] ∧ [UB3]"), "-00002292300+00"), [0, 2]);
     }
 
     #[test]

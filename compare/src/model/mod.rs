@@ -25,6 +25,7 @@ pub fn answer(function: Function, fields: &[&[u8]]) -> Option<Answer> {
         Function::Pakete => tree(first).and_then(|node| listed(&judged::pakete(&node))),
         Function::Truth => format_truth(first, fields[1]),
         Function::Violations => violations(first, fields[1]),
+        Function::Evaluate if is_boundary(first) && is_other_form(fields[1]) => said('V'),
         Function::Paket | Function::Name | Function::Evaluate | Function::Registered if is_900(first) => {
             alone(function, fields)
         }
@@ -43,7 +44,17 @@ pub fn is_900(bytes: &[u8]) -> bool {
     str::from_utf8(bytes).is_ok_and(|text| kinds::number(text) == Some(900))
 }
 
-/// Such a number by itself is no Paket, and no condition that has an evaluator.
+/// Whether the bytes are the text of a condition on day boundaries.
+pub fn is_boundary(bytes: &[u8]) -> bool {
+    matches!(bytes, b"UB1" | b"UB2" | b"UB3")
+}
+
+/// Whether the bytes are a value, and none in full form.
+pub fn is_other_form(bytes: &[u8]) -> bool {
+    value(bytes).is_ok_and(|value| !judged::is_full_form(value))
+}
+
+/// A number equal to 900 by itself is no Paket, and no condition that has an evaluator.
 fn alone(function: Function, fields: &[&[u8]]) -> Answer {
     text(fields[0])?;
     match function {

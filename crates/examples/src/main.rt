@@ -440,7 +440,7 @@ fn either_day<W: Write>(out: &mut W) {
     );
 }
 
-// Years with a sign, and leap years.
+// Leap years, and years with a sign, which no value in full form has.
 fn years<W: Write>(out: &mut W) {
     values(
         out,
@@ -455,7 +455,7 @@ fn years<W: Write>(out: &mut W) {
     );
 }
 
-// Dates and fields that are none.
+// Values that are not in full form, and dates and times that do not exist.
 fn dates<W: Write>(out: &mut W) {
     values(
         out,

@@ -8,7 +8,7 @@ use Rattle.utf8.specs.Utf8.{is_utf8, decode, char_count}
 use Rattle.decimal.specs.Decimal.{is_number, against, integer_at_most, fraction_at_most, is_integer}
 use Rattle.std.specs.declared.cmp.Ordering.{Ordering}
 use Rattle.std.specs.declared.cmp.Ordering.TheVariants.{Less, Equal, Greater}
-use Rattle.moment.specs.Moments.{day_boundary}
+use Rattle.moment.specs.Moments.{is_dtm_303, day_boundary}
 use Rattle.formats.specs.declared.FormatVerdict.{FormatVerdict}
 use Rattle.formats.specs.declared.FormatVerdict.TheVariants.{Holds, Violated}
 use Rattle.formats.specs.declared.Relation.{Relation}
@@ -80,7 +80,7 @@ pub data Rule : Type 0 where
   length_is : ℕ → Rule
   -- at most so many characters
   length_up_to : ℕ → Rule
-  -- this text at a byte of a value that has 15 bytes and begins with 12 digits
+  -- this text at a byte of a value CCYYMMDDHHMMZZZ
   field_is : ℕ → List ℕ → Rule
   -- four digits in this relation to a number
   hhmm_in : Relation → ℕ → Rule
@@ -107,7 +107,7 @@ passes (integer_up_to k) v = integer_at_most v k
 passes (groups_of widths) v = digit_groups widths v
 passes (length_is k) v = eqb (char_count v) k
 passes (length_up_to k) v = leb (char_count v) k
-passes (field_is at text) v = eqb (length v) 15 && (all_digits (take 12 v) && begins text (drop at v))
+passes (field_is at text) v = is_dtm_303 v && begins text (drop at v)
 passes (hhmm_in relation n) v = eqb (length v) 4 && (all_digits v && meets relation (against v false n))
 passes unoc_upper v = is_utf8 v && all is_unoc_upper (decode v)
 passes zzz_utc v = ends (ascii "+00") v

@@ -8,7 +8,7 @@ ghost use Rattle.formats.specs.Table.{digit_rules, shape_rules, time_rules, rule
 ghost use Rattle.formats.specs.Answers.{verdict_number, verdict_truth, verdict_answer, registered_answer};
 
 use citation::Truth;
-use moment::{Day, day_boundary};
+use moment::{Day, day_boundary, is_dtm_303};
 use refusal::Refusal;
 use std::cmp::Ordering;
 
@@ -158,10 +158,9 @@ fn max_length(value: &[u8], most: usize) -> bool
 
 // A text that stands from a byte on in a value CCYYMMDDHHMMZZZ.
 fn dtm_303_field(value: &[u8], at: usize, want: &[u8]) -> bool
-    requires { at ≤ 15 }
     ensures { result ≡ passes (field_is at want.now) value.now }
 {
-    value.len() == 15 && text::all_digits(text::head(value, 12)) && text::begins_at(value, at, want)
+    is_dtm_303(value) && text::begins_at(value, at, want)
 }
 
 // Four digits in this relation to a bound.

@@ -1,55 +1,35 @@
--- The moment that a value gives, and the day boundaries (docs/SEMANTICS.md, 'Day boundaries and summer time'). Assumes nothing.
-use Rattle.std.specs.Prelude.{ℕ, ◌+◌, ◌-◌, List, Bool, false, cond, ◌&&◌, length, take, drop, leb, Option, Some, None}
+-- Dates and times as format 303 of a DTM segment writes them, CCYYMMDDHHMMZZZ, and the day boundaries among them (docs/SEMANTICS.md, 'Day boundaries and summer time'). Assumes nothing.
+use Rattle.std.specs.Prelude.{ℕ, ◌+◌, List, Bool, cond, ◌&&◌, length, take, drop, eqb}
 use Rattle.text.specs.Quoted.{ascii}
 use Rattle.text.specs.Bytes.{begins, ends, part}
-use Rattle.text.specs.Digits.{digits_up_to, number_up_to}
+use Rattle.text.specs.Digits.{all_digits, nat_of}
 use Rattle.calendar.specs.Calendar.{era_start, is_date, is_time, is_mesz}
 use Rattle.moment.specs.declared.Moment.{Moment}
 
--- month, day, hour or minute: the two bytes from a place on, maybe with a `+`
-unfoldable pub field_of : ℕ → List ℕ → Option ℕ
-field_of from v = cond (leb (from + 2) (length v)) (number_up_to 255 (part from 2 v)) None
+-- the shape CCYYMMDDHHMMZZZ: 15 bytes, the first 12 of them digits
+unfoldable pub is_dtm_303 : List ℕ → Bool
+is_dtm_303 v = eqb (length v) 15 && all_digits (take 12 v)
 
--- a year from 0 on, as the calendar counts it
-abbrev pub later : Option ℕ → Option ℕ
-later (Some n) = Some (era_start + n)
-later None = None
+-- full form: this shape, and `+00` at its end, which says that the time is UTC
+unfoldable pub is_full_form : List ℕ → Bool
+is_full_form v = is_dtm_303 v && ends (ascii "+00") v
 
--- a year before 0, as the calendar counts it
-abbrev pub earlier : Option ℕ → Option ℕ
-earlier (Some n) = Some (era_start - n)
-earlier None = None
+-- the number that so many digits write, from a place on
+abbrev pub number_at : ℕ → ℕ → List ℕ → ℕ
+number_at from count v = nat_of (part from count v)
 
--- the year that four bytes give, maybe with a sign
-abbrev pub signed_year : List ℕ → Option ℕ
-signed_year t = cond (begins (ascii "-") t) (earlier (digits_up_to 999 (drop 1 t))) (later (number_up_to 9999 t))
+-- the year, as the calendar counts it, month, day, hour and minute of a value in full form
+unfoldable pub moment_of : List ℕ → Moment
+moment_of v = record { year = era_start + number_at 0 4 v; month = number_at 4 2 v; day = number_at 6 2 v; hour = number_at 8 2 v; minute = number_at 10 2 v }
 
--- the year: the first four bytes
-unfoldable pub year_of : List ℕ → Option ℕ
-year_of v = cond (leb 4 (length v)) (signed_year (take 4 v)) None
+-- the date exists, and the day has this time
+unfoldable pub exists : Moment → Bool
+exists m = is_date m.year m.month m.day && is_time m.hour m.minute
 
--- a date and a time that exist
-unfoldable pub existing_of : ℕ → ℕ → ℕ → ℕ → ℕ → Option Moment
-existing_of y m d h i = cond (is_date y m d && is_time h i) (Some (record { year = y; month = m; day = d; hour = h; minute = i })) None
+-- of two texts the one for summer time, or the other
+unfoldable pub of_season : Moment → List ℕ → List ℕ → List ℕ
+of_season m summer winter = cond (is_mesz m.year m.month m.day m.hour m.minute) summer winter
 
--- five fields, each of which has to be a number
-abbrev pub five : Option ℕ → Option ℕ → Option ℕ → Option ℕ → Option ℕ → Option Moment
-five None m d h i = None
-five (Some y) None d h i = None
-five (Some y) (Some m) None h i = None
-five (Some y) (Some m) (Some d) None i = None
-five (Some y) (Some m) (Some d) (Some h) None = None
-five (Some y) (Some m) (Some d) (Some h) (Some i) = existing_of y m d h i
-
--- the moment of a value, whose year, month, day, hour and minute begin at the bytes 0, 4, 6, 8 and 10; what comes after them may be anything
-unfoldable pub moment_of : List ℕ → Option Moment
-moment_of v = five (year_of v) (field_of 4 v) (field_of 6 v) (field_of 8 v) (field_of 10 v)
-
--- in summer time the one text stands from byte 8, otherwise the other
-abbrev pub boundary : Option Moment → List ℕ → List ℕ → List ℕ → Bool
-boundary None summer winter v = false
-boundary (Some m) summer winter v = cond (is_mesz m.year m.month m.day m.hour m.minute) (begins summer (drop 8 v)) (begins winter (drop 8 v))
-
--- a day boundary: the value ends `+00`, and the hours and minutes are those of the season
+-- a day boundary: a value in full form, a date and a time that exist, and the hours and minutes of the season, which stand from byte 8
 unfoldable pub day_boundary : List ℕ → List ℕ → List ℕ → Bool
-day_boundary summer winter v = ends (ascii "+00") v && boundary (moment_of v) summer winter v
+day_boundary summer winter v = is_full_form v && (exists (moment_of v) && begins (of_season (moment_of v) summer winter) (drop 8 v))

@@ -1,11 +1,11 @@
-// The moment that a value gives, and the day boundaries of German legal time, written in UTC.
+// Dates and times as format 303 of a DTM segment writes them, and the day boundaries of German legal time among them, in UTC.
 
 #![tactic(auto)]
 
-ghost use Rattle.std.specs.Prelude.{◌≡◌, ◌≤◌};
-ghost use Rattle.moment.specs.Moments.{field_of, signed_year, year_of, existing_of, moment_of, day_boundary};
+ghost use Rattle.std.specs.Prelude.{◌≡◌, ◌≤◌, true};
+ghost use Rattle.moment.specs.Moments.{is_dtm_303, is_full_form, number_at, moment_of, exists, of_season, day_boundary};
 
-// A date and a time that exist; years are counted as the calendar counts them.
+// A date and a time, whether they exist or not; years are counted as the calendar counts them.
 #[derive(Clone, Copy, Debug, PartialEq, Eq)]
 pub struct Moment {
     pub year: u16,
@@ -22,81 +22,68 @@ pub struct Day<'a> {
     pub winter: &'a [u8],
 }
 
-// Two bytes as a number.
-#[tactic(auto, unfolding(crate::specs::Moments::field_of))]
-fn field(value: &[u8], from: usize) -> Option<u8>
-    requires { from ≤ 100 }
-    ensures { result ≡ field_of from value.now }
+// Whether a value has the shape CCYYMMDDHHMMZZZ.
+#[tactic(auto, unfolding(crate::specs::Moments::is_dtm_303))]
+pub fn is_dtm_303(value: &[u8]) -> bool
+    ensures { result ≡ is_dtm_303 value.now }
 {
-    if value.len() < from + 2 {
-        return None;
-    }
-    let n = text::number_up_to(text::between(value, from, 2), 255)?;
-    Some(n as u8)
+    value.len() == 15 && text::all_digits(text::head(value, 12))
 }
 
-// Four bytes as a year, maybe with a sign.
-fn signed_year(t: &[u8]) -> Option<u16>
-    ensures { result ≡ signed_year t.now }
+// Whether it does, and is in UTC.
+#[tactic(auto, unfolding(crate::specs::Moments::is_full_form))]
+fn is_full_form(value: &[u8]) -> bool
+    ensures { result ≡ is_full_form value.now }
 {
-    if text::begins_at(t, 0, b"-") {
-        let n = text::digits_up_to(text::tail(t, 1), 999)?;
-        return Some(calendar::ERA_START - n as u16);
-    }
-    let n = text::number_up_to(t, 9999)?;
-    Some(calendar::ERA_START + n as u16)
+    is_dtm_303(value) && text::ends_with(value, b"+00")
 }
 
-#[tactic(auto, unfolding(crate::specs::Moments::year_of))]
-fn year(value: &[u8]) -> Option<u16>
-    ensures { result ≡ year_of value.now }
+// The number that two of the twelve digits write.
+#[tactic(auto, using(crate::proofs::Laws::inside, crate::proofs::Laws::pair, crate::proofs::Laws::pair_number))]
+fn two_digits(value: &[u8], from: usize) -> u8
+    requires { (is_full_form value.now ≡ true) × (from ≤ 10) }
+    ensures { result ≡ number_at from 2 value.now }
 {
-    if value.len() < 4 {
-        return None;
-    }
-    signed_year(text::head(value, 4))
+    (value[from] - b'0') * 10 + (value[from + 1] - b'0')
 }
 
-#[tactic(auto, unfolding(crate::specs::Moments::existing_of))]
-fn existing(year: u16, month: u8, day: u8, hour: u8, minute: u8) -> Option<Moment>
-    ensures { result ≡ existing_of year month day hour minute }
+// The first four as a year.
+#[tactic(auto, using(crate::proofs::Laws::four, crate::proofs::Laws::below_100))]
+fn year(value: &[u8]) -> u16
+    requires { is_full_form value.now ≡ true }
+    ensures { result ≡ number_at 0 4 value.now }
 {
-    if !calendar::is_date(year, month, day) || !calendar::is_time(hour, minute) {
-        return None;
-    }
-    Some(Moment {
-        year,
-        month,
-        day,
-        hour,
-        minute,
-    })
+    u16::from(two_digits(value, 0)) * 100 + u16::from(two_digits(value, 2))
 }
 
-#[tactic(auto, unfolding(crate::specs::Moments::moment_of))]
-pub fn moment_of(value: &[u8]) -> Option<Moment>
+#[tactic(auto, using(crate::proofs::Laws::below_10000), unfolding(crate::specs::Moments::moment_of))]
+fn moment_of(value: &[u8]) -> Moment
+    requires { is_full_form value.now ≡ true }
     ensures { result ≡ moment_of value.now }
 {
-    existing(
-        year(value)?,
-        field(value, 4)?,
-        field(value, 6)?,
-        field(value, 8)?,
-        field(value, 10)?,
-    )
+    Moment {
+        year: calendar::ERA_START + year(value),
+        month: two_digits(value, 4),
+        day: two_digits(value, 6),
+        hour: two_digits(value, 8),
+        minute: two_digits(value, 10),
+    }
 }
 
-// A day of this kind begins. The parts of the date and time go to calendar one by one, which says why.
-#[tactic(auto, unfolding(crate::specs::Moments::day_boundary))]
-pub fn day_boundary(value: &[u8], day: Day) -> bool
-    ensures { result ≡ day_boundary day.entry.summer.now day.entry.winter.now value.now }
+// The parts of the date and time go to calendar one by one, which says why.
+#[tactic(auto, unfolding(crate::specs::Moments::exists))]
+fn exists(moment: Moment) -> bool
+    ensures { result ≡ exists moment }
 {
-    if !text::ends_with(value, b"+00") {
-        return false;
-    }
-    let Some(moment) = moment_of(value) else {
-        return false;
-    };
+    calendar::is_date(moment.year, moment.month, moment.day)
+        && calendar::is_time(moment.hour, moment.minute)
+}
+
+// The hours and minutes when a day of this kind begins, in the season of the moment.
+#[tactic(auto, unfolding(crate::specs::Moments::of_season))]
+fn of_season<'a>(moment: Moment, day: Day<'a>) -> &'a [u8]
+    ensures { result.now ≡ of_season moment day.entry.summer.now day.entry.winter.now }
+{
     if calendar::is_mesz(
         moment.year,
         moment.month,
@@ -104,7 +91,19 @@ pub fn day_boundary(value: &[u8], day: Day) -> bool
         moment.hour,
         moment.minute,
     ) {
-        return text::begins_at(value, 8, day.summer);
+        return day.summer;
     }
-    text::begins_at(value, 8, day.winter)
+    day.winter
+}
+
+// A day of this kind begins.
+#[tactic(auto, unfolding(crate::specs::Moments::day_boundary))]
+pub fn day_boundary(value: &[u8], day: Day) -> bool
+    ensures { result ≡ day_boundary day.entry.summer.now day.entry.winter.now value.now }
+{
+    if !is_full_form(value) {
+        return false;
+    }
+    let moment = moment_of(value);
+    exists(moment) && text::begins_at(value, 8, of_season(moment, day))
 }

@@ -15,7 +15,7 @@ use Rattle.citation.specs.declared.Truth.{Truth}
 use Rattle.citation.specs.declared.Truth.TheVariants.{False, True}
 use Rattle.decimal.specs.Decimal.{integer_of, fraction_of, against, fraction_at_most}
 use Rattle.calendar.specs.Calendar.{month_days, is_date, is_time, last_sunday, is_mesz}
-use Rattle.moment.specs.Moments.{field_of, year_of, existing_of, moment_of, day_boundary}
+use Rattle.moment.specs.Moments.{is_dtm_303, is_full_form, moment_of, exists, of_season, day_boundary}
 use Rattle.formats.specs.declared.FormatVerdict.{FormatVerdict}
 use Rattle.formats.specs.declared.FormatVerdict.TheVariants.{Holds, Violated}
 use Rattle.formats.specs.Rules.{judged}
@@ -109,5 +109,5 @@ wanted (x ∷ xs) = x.1 ∷ wanted xs
 
 -- every case holds
 pub cases_hold : said cases ≡ wanted cases
-unfolding reading admitted is_utf8 decode encode_char lead_of expression then map_ok lex outer inner part is_white symbol blank tree some_token few texts concat shallow parse read value whole gather grow led same ◌⧺◌ parse_answer display_answer answer_of eval_answer print bracketed sign_bytes tree_of is_tree head_ok tiles size_of rows_from cited_from rows_ok row_ok cites_ok citable holds tree_at forest_at first build place made firsts rests bytes_of packed head_bytes row_bytes cite_bytes two_bytes rows node op_kind many citations answers_fit presence_with answered before and_rule or_rule xor_rule two_true any every some_gate_with some_free_with kind_of kind_of_number number_up_to verdict rule_of judged against integer_of fraction_of fraction_at_most day_boundary moment_of existing_of year_of field_of is_date is_time is_mesz last_sunday month_days
+unfolding reading admitted is_utf8 decode encode_char lead_of expression then map_ok lex outer inner part is_white symbol blank tree some_token few texts concat shallow parse read value whole gather grow led same ◌⧺◌ parse_answer display_answer answer_of eval_answer print bracketed sign_bytes tree_of is_tree head_ok tiles size_of rows_from cited_from rows_ok row_ok cites_ok citable holds tree_at forest_at first build place made firsts rests bytes_of packed head_bytes row_bytes cite_bytes two_bytes rows node op_kind many citations answers_fit presence_with answered before and_rule or_rule xor_rule two_true any every some_gate_with some_free_with kind_of kind_of_number number_up_to verdict rule_of judged against integer_of fraction_of fraction_at_most day_boundary is_full_form is_dtm_303 moment_of exists of_season is_date is_time is_mesz last_sunday month_days
 cases_hold = refl
