@@ -3,6 +3,7 @@
 use crate::model::reading::{Token, after_word, tokens};
 use crate::model::tree::Node;
 use crate::model::{self, is_900, is_boundary, is_other_form};
+use crate::oracle::refusal::NO_ROOM;
 use crate::oracle::{self, Answer, Origin};
 use crate::request::{self, BAD_REQUEST, Function};
 
@@ -35,7 +36,7 @@ const RULES: [Rule; 7] = [
     Rule { reason: "UB1 to UB3 on a value not in full form", covers: boundary_alone, still: Some(was_held) },
     Rule {
         reason: "format truth where UB1 to UB3 meet a value not in full form, and 900 is cited",
-        covers: |function, fields| boundary_truth(function, fields) && truth_with_900(function, fields),
+        covers: |function, fields| boundary_truth(function, fields) && tree_cites_900(fields[0]),
         still: Some(stays_false),
     },
     Rule {
@@ -65,17 +66,19 @@ fn boundary_alone(function: Function, fields: &[&[u8]]) -> bool {
 }
 
 fn boundary_truth(function: Function, fields: &[&[u8]]) -> bool {
-    function == Function::Truth && is_other_form(fields[1]) && tree_cites_boundary(fields[0])
+    function == Function::Truth && boundary_in_tree(fields[0], fields[1])
 }
 
 fn boundary_violations(function: Function, fields: &[&[u8]]) -> bool {
-    function == Function::Violations && is_other_form(fields[1]) && tree_cites_boundary(fields[0])
+    function == Function::Violations && boundary_in_tree(fields[0], fields[1])
 }
 
-fn tree_cites_boundary(tree: &[u8]) -> bool {
-    tree.windows(2).any(|two| two == b"UB")
-        && Node::of_bytes(tree)
-            .is_some_and(|node| node.texts().into_iter().any(|text| is_boundary(text.as_bytes())))
+fn boundary_in_tree(tree: &[u8], value: &[u8]) -> bool {
+    is_other_form(value) && tree.windows(2).any(|two| two == b"UB") && tree_cites(tree, is_boundary)
+}
+
+fn tree_cites(tree: &[u8], is: fn(&[u8]) -> bool) -> bool {
+    Node::of_bytes(tree).is_some_and(|node| node.texts().into_iter().any(|text| is(text.as_bytes())))
 }
 
 fn kind_of_900(function: Function, fields: &[&[u8]]) -> bool {
@@ -118,9 +121,7 @@ fn text_cites_900(text: &[u8], read: fn(&str) -> String) -> bool {
 }
 
 fn tree_cites_900(tree: &[u8]) -> bool {
-    may_cite_900(tree)
-        && Node::of_bytes(tree)
-            .is_some_and(|node| node.texts().into_iter().any(|text| is_900(text.as_bytes())))
+    may_cite_900(tree) && tree_cites(tree, is_900)
 }
 
 fn said(answer: &Answer, word: &str) -> bool {
@@ -137,25 +138,25 @@ fn was_unknown(model: &Answer, original: &Answer) -> bool {
     model == original || said(model, "2") && said(original, "1")
 }
 
-/// Violated, whatever the original says.
+/// Violated, where the original has Holds or Violated.
 fn was_held(model: &Answer, original: &Answer) -> bool {
     said(model, "V") && (said(original, "H") || said(original, "V"))
 }
 
-/// False where the original's is.
+/// False where the original's is; neither is a refusal.
 fn stays_false(model: &Answer, original: &Answer) -> bool {
-    said(model, "0") || !said(original, "0")
+    model.is_ok() && original.is_ok() && (said(model, "0") || !said(original, "0"))
 }
 
 /// As the original's, or lower.
 fn was_higher(model: &Answer, original: &Answer) -> bool {
-    model == original || said(model, "0") || said(model, "1") && said(original, "2")
+    model == original || original.is_ok() && said(model, "0") || said(model, "1") && said(original, "2")
 }
 
-/// What the original lists, in its order, and maybe more; or a refusal for a buffer that is too short.
+/// What the original lists, in its order, and maybe more; or the refusal of a buffer that is too short.
 fn listed_more(model: &Answer, original: &Answer) -> bool {
     let (Ok((_, model)), Ok((_, original))) = (model, original) else {
-        return model.is_err();
+        return *model == Err(NO_ROOM);
     };
     let mut listed = model.chunks(2);
     original.chunks(2).all(|number| listed.any(|one| one == number))
@@ -251,7 +252,7 @@ mod tests {
     }
 
     #[test]
-    fn a_day_boundary_not_in_full_form_is_taken_out() {
+    fn a_value_not_in_full_form_is_taken_out() {
         let [alone, both, truth, listed, ..] = RULES.map(|rule| rule.reason);
         let due = |reason, word: &str| Ok((Ok((word.to_owned(), Vec::new())), Origin::Model(reason)));
         for id in [b"UB1", b"UB2", b"UB3"] {
@@ -281,12 +282,18 @@ mod tests {
             let said = ASKED.ask(function, &[first, value, b""][..if function.lends() { 3 } else { 2 }]);
             assert_eq!(said.map(|(_, origin)| origin), Ok(Origin::Time));
         }
+    }
+
+    #[test]
+    fn refused_values_and_other_conditions_are_not() {
         for value in [&[b'1'; 1_025][..], b"\xff"] {
             let said = ASKED.ask(Function::Evaluate, &[b"UB1", value]);
             assert_eq!(said.map(|(_, origin)| origin), Ok(Origin::Paper));
         }
-        let others = ASKED.ask(Function::Evaluate, &[b"UB4", b"x"]);
-        assert_eq!(others.map(|(_, origin)| origin), Ok(Origin::Rust));
+        for other in [b"UB4", b"932"] {
+            let said = ASKED.ask(Function::Evaluate, &[other, b"202607012200draft+00"]);
+            assert_eq!(said.map(|(_, origin)| origin), Ok(Origin::Rust));
+        }
     }
 
     #[test]

@@ -144,10 +144,11 @@ fn boundaries(all: &mut Examples) {
         ("202607012260+00", "VVV"),
     ];
     let others = [
-        "202607012200draft+00", "20260701220+00", "2026070122000+00", "+02607012200+00", "-02607012200+00",
-        "-00002292300+00", "2026+7012200+00", "2026-7012200+00", "202607+12200+00", "202607-12200+00",
-        "20260701+400+00", "20260701-400+00", "2026070122+0+00", "2026070122-0+00", "202607é2200+00",
-        "2026070122é+00", "202607012200é0", "202607012200+01", "202607012200-00", "",
+        "202607012200draft+00", "202607010400draft+00", "2026070104000+00", "+02607010400+00",
+        "2026+7010400+00", "202607+10400+00", "20260701220+00", "2026070122000+00", "+02607012200+00",
+        "-02607012200+00", "-00002292300+00", "2026+7012200+00", "2026-7012200+00", "202607+12200+00",
+        "202607-12200+00", "20260701+400+00", "20260701-400+00", "2026070122+0+00", "2026070122-0+00",
+        "202607é2200+00", "2026070122é+00", "202607012200é0", "202607012200+01", "202607012200-00", "",
     ];
     for (value, answers) in due.into_iter().chain(others.map(|value| (value, "VVV"))) {
         for (text, answer) in ["UB1", "UB2", "UB3"].into_iter().zip(answers.chars()) {
@@ -271,13 +272,14 @@ fn judgements(all: &mut Examples) {
     not_in_full_form(all);
 }
 
-/// A value that violates UB1 since it is not in full form, and ends `+00`.
+/// Values that hold 931 and violate a day boundary's condition, since they end `+00` and are not in full form.
 fn not_in_full_form(all: &mut Examples) {
-    let joined = |kind| tree(&[(kind, 2, 3), (0, 0, 1), (0, 1, 1)], &["931", "UB1"]);
-    for value in ["202607012200draft+00", "2026+7012200+00"] {
-        say(all, Function::Truth, &[&joined(2), value.as_bytes()], "0");
-        say(all, Function::Truth, &[&joined(3), value.as_bytes()], "2");
-        say(all, Function::Violations, &[&joined(2), value.as_bytes(), &[9; 3]], "ok 1 010009");
+    let due = [("UB1", "202607012200draft+00"), ("UB2", "2026+7010400+00"), ("UB3", "202607012200é+00")];
+    for (text, value) in due.map(|(text, value)| (text, value.as_bytes())) {
+        let joined = |kind| tree(&[(kind, 2, 3), (0, 0, 1), (0, 1, 1)], &["931", text]);
+        say(all, Function::Truth, &[&joined(2), value], "0");
+        say(all, Function::Truth, &[&joined(3), value], "2");
+        say(all, Function::Violations, &[&joined(2), value, &[9; 3]], "ok 1 010009");
     }
 }
 

@@ -11,13 +11,13 @@ use crate::tree::{NODE_ROW, encode, encode_parts, flat, node};
 
 pub const TREE_FUNCTIONS: [Function; 7] = [Tree, Print, Cited, Eval, Pakete, Truth, Violations];
 
-pub const VALUES: [&str; 14] = [
-    "0", "1", "5", "-1", "0.5", "99999", "1000", "", "A", "202603292200+00", "202612010500+00", "1-01-1",
-    "+49", "x@y.z",
+pub const VALUES: [&str; 16] = [
+    "0", "1", "5", "-1", "0.5", "99999", "1000", "", "A", "202603292200+00", "202612010500+00",
+    "202607012200draft+00", "2026+7010400+00", "1-01-1", "+49", "x@y.z",
 ];
-const CITED: [&str; 20] = [
+const CITED: [&str; 22] = [
     "1", "2", "3", "499", "500", "899", "900", "902", "903", "914", "937", "950", "999", "2000", "UB1",
-    "UB4", "1P0..1", "2P", "xP0..n", "é 5",
+    "UB2", "UB3", "UB4", "1P0..1", "2P", "xP0..n", "é 5",
 ];
 
 /// The trees that were judged, so that none is judged twice.
@@ -162,7 +162,7 @@ fn ask_each(cases: &mut Cases, expr: &Expr) {
             cases.ask(Eval, &[&tree, &answers]);
         }
     }
-    for value in ["0", "-1", "202603292200+00"] {
+    for value in ["0", "-1", "202603292200+00", "202607012200draft+00"] {
         cases.ask(Truth, &[&tree, value.as_bytes()]);
         for room in 0..=4 {
             cases.ask(Violations, &[&tree, value.as_bytes(), &[0xAA; 4][..room]]);

@@ -1,6 +1,6 @@
-//! Presence, package rows, format truth and violations of a tree (docs/SEMANTICS.md). The bounds that a Paket's text has, and
-//! what a condition says of a value by itself, are asked of the original: only kinds are the model's, and that day boundaries
-//! are written in full form.
+//! Presence, package rows, format truth and violations of a tree (docs/SEMANTICS.md). The model's own are the kinds, and that
+//! a day boundary is written in full form; what else a condition says of a value by itself, and the bounds of a Paket's
+//! text, the original is asked.
 
 use super::is_boundary;
 use super::kinds::{Kind, kind};
@@ -63,9 +63,9 @@ fn gates(node: &Node) -> bool {
     node.texts().into_iter().any(|text| matches!(kind(text), Kind::Voraussetzung | Kind::Paket))
 }
 
-/// Whether a value is 15 bytes, the first 12 of them ASCII digits, ending `+00`.
+/// Whether a value is twelve ASCII digits and then `+00`, 15 bytes in all.
 pub fn is_full_form(value: &str) -> bool {
-    value.len() == 15 && value.bytes().take(12).all(|b| b.is_ascii_digit()) && value.ends_with("+00")
+    value.len() == 15 && value.ends_with("+00") && value.bytes().take(12).all(|b| b.is_ascii_digit())
 }
 
 /// What a citation counts as on a value.

@@ -440,7 +440,7 @@ fn either_day<W: Write>(out: &mut W) {
     );
 }
 
-// Leap years, and years with a sign, which no value in full form has.
+// Leap years; years with a sign and a character before the end, which no value in full form has.
 fn years<W: Write>(out: &mut W) {
     values(
         out,

@@ -2,7 +2,7 @@
 
 #![tactic(auto, unfolding(crate::specs::Rules::judged, crate::specs::Table::judged_in, crate::specs::Table::rule_at, crate::specs::Table::id_of))]
 
-ghost use Rattle.std.specs.Prelude.{◌≡◌, ◌≤◌, ◌++◌};
+ghost use Rattle.std.specs.Prelude.{◌≡◌, ◌++◌};
 ghost use Rattle.formats.specs.Rules.{meets, group_ahead, is_unoc_upper, bound, any_number, whole_between, fraction_up_to, integer_up_to, groups_of, length_is, length_up_to, field_is, hhmm_in, unoc_upper, zzz_utc, email_shape, phone_shape, boundary_at, boundary_of, passes, verdict_of};
 ghost use Rattle.formats.specs.Table.{digit_rules, shape_rules, time_rules, rules, id_of, judged_in, verdict};
 ghost use Rattle.formats.specs.Answers.{verdict_number, verdict_truth, verdict_answer, registered_answer};

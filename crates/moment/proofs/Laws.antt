@@ -1,19 +1,14 @@
--- Laws of a value in full form: its twelve digits, and the numbers that they write. Assumes nothing.
-use Rattle.std.proofs.Common.{◌≡◌, ℕ, zero, suc, ◌+◌, ◌-◌, ◌*◌, ◌<◌, ◌≤◌, true, List, [], ◌∷◌, length, get_or, take, eqb, eqb-true, arith, sym}
+-- Laws of a value in full form: its twelve digits, and their numbers. Assumes nothing.
+use Rattle.std.proofs.Common.{◌≡◌, ℕ, suc, ◌+◌, ◌-◌, ◌*◌, ◌<◌, ◌≤◌, true, List, length, get_or, take, eqb, eqb-true, arith, sym}
 use Rattle.std.proofs.lemmas.List.{get_or-take, length-take-le}
 use Rattle.std.proofs.Math.Seq.{drop-cons}
 use native.Mathlib.Numerals.{add-one}
 use Rattle.laws.specs.Tests.{and_both}
 use Rattle.text.specs.Quoted.{ascii}
 use Rattle.text.specs.Bytes.{ends}
-use Rattle.text.specs.Digits.{is_digit, all_digits}
-use Rattle.text.proofs.Numbers.{digit_range}
+use Rattle.text.specs.Digits.{all_digits}
+use Rattle.text.proofs.Numbers.{each_digit}
 use Rattle.moment.specs.Moments.{is_dtm_303, is_full_form, number_at}
-
-each_digit : (s : List ℕ) (i : ℕ) → all_digits s ≡ true → i < length s → (48 ≤ get_or s i 0) × (get_or s i 0 ≤ 57)
-each_digit [] i a l = absurd (omega arith)
-each_digit (b ∷ s) zero a l = digit_range b (and_both (is_digit b) (all_digits s) a).0
-each_digit (b ∷ s) (suc i) a l = each_digit s i (and_both (is_digit b) (all_digits s) a).1 (omega arith)
 
 module _ (v : List ℕ) (h : is_full_form v ≡ true) where
   shape : (length v ≡ 15) × (all_digits (take 12 v) ≡ true)
@@ -23,6 +18,7 @@ module _ (v : List ℕ) (h : is_full_form v ≡ true) where
       let d = and_both (eqb (length v) 15) (all_digits (take 12 v)) f.0 in
       (eqb-true (length v) 15 d.0, d.1)
 
+  -- one of the digits
   digit : (i : ℕ) → i < 12 → (48 ≤ get_or v i 0) × (get_or v i 0 ≤ 57)
   digit i l =
       let n : length (take 12 v) ≡ 12 = length-take-le 12 v (omega (arith, shape)) in

@@ -1,4 +1,5 @@
--- Dates and times as format 303 of a DTM segment writes them, CCYYMMDDHHMMZZZ, and the day boundaries among them (docs/SEMANTICS.md, 'Day boundaries and summer time'). Assumes nothing.
+-- Dates and times as format 303 of a DTM segment writes them, and the day boundaries among them (docs/SEMANTICS.md, 'Day boundaries and
+-- summer time'). Assumes nothing.
 use Rattle.std.specs.Prelude.{ℕ, ◌+◌, List, Bool, cond, ◌&&◌, length, take, drop, eqb}
 use Rattle.text.specs.Quoted.{ascii}
 use Rattle.text.specs.Bytes.{begins, ends, part}
@@ -26,10 +27,10 @@ moment_of v = record { year = era_start + number_at 0 4 v; month = number_at 4 2
 unfoldable pub exists : Moment → Bool
 exists m = is_date m.year m.month m.day && is_time m.hour m.minute
 
--- of two texts the one for summer time, or the other
+-- the first of two texts in summer time, else the second
 unfoldable pub of_season : Moment → List ℕ → List ℕ → List ℕ
 of_season m summer winter = cond (is_mesz m.year m.month m.day m.hour m.minute) summer winter
 
--- a day boundary: a value in full form, a date and a time that exist, and the hours and minutes of the season, which stand from byte 8
+-- a day boundary: in full form, with a date and a time that exist, and from byte 8 the hours and minutes of the season
 unfoldable pub day_boundary : List ℕ → List ℕ → List ℕ → Bool
 day_boundary summer winter v = is_full_form v && (exists (moment_of v) && begins (of_season (moment_of v) summer winter) (drop 8 v))

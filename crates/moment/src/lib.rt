@@ -6,13 +6,13 @@ ghost use Rattle.std.specs.Prelude.{◌≡◌, ◌≤◌, true};
 ghost use Rattle.moment.specs.Moments.{is_dtm_303, is_full_form, number_at, moment_of, exists, of_season, day_boundary};
 
 // A date and a time, whether they exist or not; years are counted as the calendar counts them.
-#[derive(Clone, Copy, Debug, PartialEq, Eq)]
-pub struct Moment {
-    pub year: u16,
-    pub month: u8,
-    pub day: u8,
-    pub hour: u8,
-    pub minute: u8,
+#[derive(Clone, Copy)]
+struct Moment {
+    year: u16,
+    month: u8,
+    day: u8,
+    hour: u8,
+    minute: u8,
 }
 
 // A kind of day: the hours and minutes, in UTC, when it begins in summer time, and otherwise.
@@ -30,7 +30,7 @@ pub fn is_dtm_303(value: &[u8]) -> bool
     value.len() == 15 && text::all_digits(text::head(value, 12))
 }
 
-// Whether it does, and is in UTC.
+// Whether a value is in full form: this shape, and `+00` at its end.
 #[tactic(auto, unfolding(crate::specs::Moments::is_full_form))]
 fn is_full_form(value: &[u8]) -> bool
     ensures { result ≡ is_full_form value.now }
@@ -47,7 +47,7 @@ fn two_digits(value: &[u8], from: usize) -> u8
     (value[from] - b'0') * 10 + (value[from + 1] - b'0')
 }
 
-// The first four as a year.
+// The year that the first four write.
 #[tactic(auto, using(crate::proofs::Laws::four, crate::proofs::Laws::below_100))]
 fn year(value: &[u8]) -> u16
     requires { is_full_form value.now ≡ true }
@@ -56,6 +56,7 @@ fn year(value: &[u8]) -> u16
     u16::from(two_digits(value, 0)) * 100 + u16::from(two_digits(value, 2))
 }
 
+// The moment that the twelve digits write.
 #[tactic(auto, using(crate::proofs::Laws::below_10000), unfolding(crate::specs::Moments::moment_of))]
 fn moment_of(value: &[u8]) -> Moment
     requires { is_full_form value.now ≡ true }
@@ -70,7 +71,7 @@ fn moment_of(value: &[u8]) -> Moment
     }
 }
 
-// The parts of the date and time go to calendar one by one, which says why.
+// Whether the date exists and the day has this time. The parts go to calendar one by one, which says why.
 #[tactic(auto, unfolding(crate::specs::Moments::exists))]
 fn exists(moment: Moment) -> bool
     ensures { result ≡ exists moment }
@@ -96,7 +97,7 @@ fn of_season<'a>(moment: Moment, day: Day<'a>) -> &'a [u8]
     day.winter
 }
 
-// A day of this kind begins.
+// Whether a value is in full form and is a moment when a day of this kind begins.
 #[tactic(auto, unfolding(crate::specs::Moments::day_boundary))]
 pub fn day_boundary(value: &[u8], day: Day) -> bool
     ensures { result ≡ day_boundary day.entry.summer.now day.entry.winter.now value.now }

@@ -1,7 +1,7 @@
 -- Laws of the numbers that digits write. Assumes nothing.
-use Prim.Native.Nat.{ℕ, suc, ◌+◌, ◌-◌, ◌*◌, ◌^◌, ◌≤◌, ◌<◌, min}
+use Prim.Native.Nat.{ℕ, zero, suc, ◌+◌, ◌-◌, ◌*◌, ◌^◌, ◌≤◌, ◌<◌, min}
 use mathlib.Core.Path.{◌≡◌, refl, sym, ap, ◌∙◌}
-use mathlib.Core.Bool.{Bool, true, false, cond, ◌&&◌, and-false, false≢true}
+use mathlib.Core.Bool.{true, false, and-false, false≢true}
 use mathlib.Core.List.{List, [], ◌∷◌, ◌++◌}
 use native.Mathlib.Omega.{arith}
 use native.Mathlib.Numerals.{add-one}
@@ -14,7 +14,7 @@ use lib.Dec.{ltb, leb}
 use borrow.Author.Tests.{lt-ltb, le-ltb, le-leb, lt-leb, leb-true, ne_eqb}
 use Rattle.laws.specs.Tests.{and_both}
 use Rattle.text.specs.Bytes.{begins, place, has}
-use Rattle.text.specs.Digits.{is_digit, all_digits, nat_from, nat_of, digits_up_to, plus_width, number_up_to}
+use Rattle.text.specs.Digits.{is_digit, all_digits, nat_from, nat_of, digits_up_to}
 
 -- a digit's bounds
 pub digit_range : (b : ℕ) → is_digit b ≡ true → (48 ≤ b) × (b ≤ 57)
@@ -22,7 +22,13 @@ digit_range b h =
     let r = and_both (leb 48 b) (leb b 57) h in
     (leb-true 48 b r.0, leb-true b 57 r.1)
 
--- the digit at a place of a list of digits
+-- what stands at a place among digits is one
+pub each_digit : (s : List ℕ) (i : ℕ) → all_digits s ≡ true → i < length s → (48 ≤ get_or s i 0) × (get_or s i 0 ≤ 57)
+each_digit [] i a l = absurd (omega arith)
+each_digit (b ∷ s) zero a l = digit_range b (and_both (is_digit b) (all_digits s) a).0
+each_digit (b ∷ s) (suc i) a l = each_digit s i (and_both (is_digit b) (all_digits s) a).1 (omega arith)
+
+-- the digit at a place of a list that ends in digits
 pub digit_at : (s : List ℕ) (i : ℕ) → i < length s → all_digits (drop i s) ≡ true → (48 ≤ get_or s i 0) × (get_or s i 0 ≤ 57) × (all_digits (drop (i + 1) s) ≡ true)
 digit_at s i h a =
     let b : all_digits (get_or s i 0 ∷ drop (i + 1) s) ≡ true = rw add-one (rw (drop-cons s i 0 h) at a) in
@@ -112,19 +118,3 @@ module _ (x : ℕ) (t : List ℕ) (no : is_digit x ≡ false) where
 
   pub not_in : (s : List ℕ) → all_digits s ≡ true → has (x ∷ t) s ≡ false
   not_in s a = rw (place_none s a) (le-ltb (length s) (length s) (omega arith))
-
--- what is found keeps its bound
-pub digits_bound : (most : ℕ) (d : List ℕ) (n : ℕ) → digits_up_to most d ≡ Some n → n ≤ most
-digits_bound most d n e = go (ltb 0 (length d) && (all_digits d && leb (nat_of d) most)) refl e
-  where
-    go : (t : Bool) → (ltb 0 (length d) && (all_digits d && leb (nat_of d) most)) ≡ t → cond t (Some (nat_of d)) None ≡ Some n → n ≤ most
-    go true h f =
-        let q = and_both (ltb 0 (length d)) (all_digits d && leb (nat_of d) most) h in
-        let l = leb-true (nat_of d) most (and_both (all_digits d) (leb (nat_of d) most) q.1).1 in
-        let g : nat_of d ≡ n = cc in
-        omega arith
-    go false h f = let q : ◌≡◌ {A = ℕ} 0 1 = cc in absurd (omega arith)
-
-pub number_bound : (most : ℕ) (s : List ℕ) (n : ℕ) → number_up_to most s ≡ Some n → n ≤ most
-unfolding number_up_to
-number_bound most s n e = digits_bound most (drop (plus_width s) s) n e

@@ -37,7 +37,7 @@ held_full t v b h = go (is_full_form v) refl
 abbrev pub verdicts_of : List ℕ → List FormatVerdict
 verdicts_of v = verdict (ascii "UB1") v ∷ verdict (ascii "UB2") v ∷ verdict (ascii "UB3") v ∷ []
 
--- a text between the digits and the end, a sign in the month, a sign before the year: UB1 and UB3 held while full form was not asked
+-- a text between the digits and the end, a sign in the month, a sign in the year: while full form was not asked for, UB1 and UB3 held for them
 abbrev pub others : List (List ℕ)
 others = ascii "202607012200draft+00" ∷ ascii "2026+7012200+00" ∷ ascii "-00002292300+00" ∷ []
 
