@@ -7,7 +7,7 @@ use Rattle.text.specs.Digits.{all_digits, nat_of}
 use Rattle.calendar.specs.Calendar.{era_start, is_date, is_time, is_mesz}
 use Rattle.moment.specs.declared.Moment.{Moment}
 
--- the shape CCYYMMDDHHMMZZZ: 15 bytes, the first 12 of them digits
+-- the shape CCYYMMDDHHMMZZZ: twelve digits, and three bytes behind them
 unfoldable pub is_dtm_303 : List ℕ → Bool
 is_dtm_303 v = eqb (length v) 15 && all_digits (take 12 v)
 
