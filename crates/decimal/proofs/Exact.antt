@@ -17,7 +17,7 @@ use borrow.Author.Tests.{lt-ltb, ltb-true, leb-true, le-leb, eqb-true, eqb-false
 use Rattle.laws.specs.Tests.{and_both}
 use Rattle.text.specs.Bytes.{all}
 use Rattle.text.specs.Digits.{is_digit, all_digits, nat_from, nat_of}
-use Rattle.text.proofs.Numbers.{digit_range, nat_append, nat_shift, nat_lt, not_front, place_none}
+use Rattle.text.proofs.Numbers.{digit_range, all_drop, nat_append, nat_shift, nat_lt, not_front, place_none}
 use Rattle.std.specs.Prelude.{Some, None}
 use Rattle.std.specs.declared.cmp.Ordering.TheVariants.{Less, Equal, Greater}
 use Rattle.std.specs.Ordering.{ordering_reverse}
@@ -126,11 +126,6 @@ module _ (w f : List ℕ) (k : ℕ) (hw : all_digits w ≡ true) (hf : all_digit
       go : (n : ℕ) → integer_digits w ≡ n → leb n k ≡ true
       go zero e = le-leb zero k (omega arith)
       go (suc j) e = elim (dec_lt k (suc j)) [ yes l ↦ absurd (large j e l) | no l ↦ le-leb (suc j) k (omega arith) ]
-
-  all_drop : (k : ℕ) (s : List ℕ) → all_digits s ≡ true → all_digits (drop k s) ≡ true
-  all_drop zero s h = h
-  all_drop (suc k) [] h = refl
-  all_drop (suc k) (d ∷ s) h = all_drop k s (and_both (is_digit d) (all_digits s) h).1
 
   left : ℕ
   left = nat_of (drop k f)

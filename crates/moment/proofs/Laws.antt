@@ -7,10 +7,11 @@ use Rattle.laws.specs.Tests.{and_both}
 use Rattle.text.specs.Quoted.{ascii}
 use Rattle.text.specs.Bytes.{ends}
 use Rattle.text.specs.Digits.{all_digits}
-use Rattle.text.proofs.Numbers.{each_digit}
+use Rattle.text.proofs.Numbers.{all_drop, digit_at}
 use Rattle.moment.specs.Moments.{is_dtm_303, is_full_form, number_at}
 
 module _ (v : List ℕ) (h : is_full_form v ≡ true) where
+  -- 15 bytes, and twelve digits in front
   shape : (length v ≡ 15) × (all_digits (take 12 v) ≡ true)
   unfolding is_full_form is_dtm_303
   shape =
@@ -22,7 +23,8 @@ module _ (v : List ℕ) (h : is_full_form v ≡ true) where
   digit : (i : ℕ) → i < 12 → (48 ≤ get_or v i 0) × (get_or v i 0 ≤ 57)
   digit i l =
       let n : length (take 12 v) ≡ 12 = length-take-le 12 v (omega (arith, shape)) in
-      rw (sym (get_or-take 12 v i 0 l)) (each_digit (take 12 v) i shape.1 (omega arith))
+      let d = digit_at (take 12 v) i (omega arith) (all_drop i (take 12 v) shape.1) in
+      rw (sym (get_or-take 12 v i 0 l)) (d.0, d.1)
 
   -- two of the digits, and their number
   module _ (from : ℕ) (l : from ≤ 10) where

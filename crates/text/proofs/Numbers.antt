@@ -22,11 +22,11 @@ digit_range b h =
     let r = and_both (leb 48 b) (leb b 57) h in
     (leb-true 48 b r.0, leb-true b 57 r.1)
 
--- what stands at a place among digits is one
-pub each_digit : (s : List ℕ) (i : ℕ) → all_digits s ≡ true → i < length s → (48 ≤ get_or s i 0) × (get_or s i 0 ≤ 57)
-each_digit [] i a l = absurd (omega arith)
-each_digit (b ∷ s) zero a l = digit_range b (and_both (is_digit b) (all_digits s) a).0
-each_digit (b ∷ s) (suc i) a l = each_digit s i (and_both (is_digit b) (all_digits s) a).1 (omega arith)
+-- digits from a place on
+pub all_drop : (k : ℕ) (s : List ℕ) → all_digits s ≡ true → all_digits (drop k s) ≡ true
+all_drop zero s h = h
+all_drop (suc k) [] h = refl
+all_drop (suc k) (d ∷ s) h = all_drop k s (and_both (is_digit d) (all_digits s) h).1
 
 -- the digit at a place of a list that ends in digits
 pub digit_at : (s : List ℕ) (i : ℕ) → i < length s → all_digits (drop i s) ≡ true → (48 ≤ get_or s i 0) × (get_or s i 0 ≤ 57) × (all_digits (drop (i + 1) s) ≡ true)

@@ -2,12 +2,14 @@
 use Rattle.std.specs.Prelude.{◌≡◌, refl, List, [], ◌∷◌, Bool, true, false, ℕ, map, replicate}
 use Rattle.std.proofs.Common.{arith, sym, ◌∙◌}
 use Rattle.text.specs.Quoted.{ascii}
+use Rattle.utf8.specs.Utf8.{encode_char}
 use Rattle.calendar.specs.Calendar.{month_days, is_date, is_time, last_sunday, is_mesz}
 use Rattle.moment.specs.Moments.{is_dtm_303, is_full_form, moment_of, exists, of_season, day_boundary}
 use Rattle.formats.specs.declared.FormatVerdict.{FormatVerdict}
 use Rattle.formats.specs.declared.FormatVerdict.TheVariants.{Holds, Violated}
 use Rattle.formats.specs.Rules.{judged}
 use Rattle.formats.specs.Table.{rule_of, verdict}
+use Rattle.grammar.specs.Quoted.{bytes}
 
 -- the texts of the conditions on day boundaries
 pub data Boundary : List ℕ → Type 0 where
@@ -37,16 +39,26 @@ held_full t v b h = go (is_full_form v) refl
 abbrev pub verdicts_of : List ℕ → List FormatVerdict
 verdicts_of v = verdict (ascii "UB1") v ∷ verdict (ascii "UB2") v ∷ verdict (ascii "UB3") v ∷ []
 
--- a text between the digits and the end, a sign in the month, a sign in the year: while full form was not asked for, UB1 and UB3 held for them
+-- a text between the digits and the end, a sign in the month, a sign in the year: while full form was not asked for, UB1 and UB3 held for
+-- them; then 14 bytes, 16 bytes, another end, no end, and a character of two bytes
 abbrev pub others : List (List ℕ)
-others = ascii "202607012200draft+00" ∷ ascii "2026+7012200+00" ∷ ascii "-00002292300+00" ∷ []
+others =
+    ascii "202607012200draft+00"
+    ∷ ascii "2026+7012200+00"
+    ∷ ascii "-00002292300+00"
+    ∷ ascii "20260701220+00"
+    ∷ ascii "2026070122000+00"
+    ∷ ascii "202607012200-00"
+    ∷ ascii "202607012200"
+    ∷ bytes "2026070122é+00"
+    ∷ []
 
--- now they are Violated
-pub others_cases : map verdicts_of others ≡ replicate 3 (Violated ∷ Violated ∷ Violated ∷ [])
-unfolding verdict rule_of judged day_boundary is_full_form is_dtm_303
+-- they are Violated
+pub others_cases : map verdicts_of others ≡ replicate 8 (Violated ∷ Violated ∷ Violated ∷ [])
+unfolding verdict rule_of judged day_boundary is_full_form is_dtm_303 encode_char
 others_cases = refl
 
--- the same moments in full form
+-- two of these moments in full form
 abbrev pub full : List (List ℕ)
 full = ascii "202607012200+00" ∷ ascii "000002292300+00" ∷ []
 
