@@ -150,11 +150,11 @@ static void judging(void) {
     memset(list, PATTERN, sizeof list);
     assert(ahb_verdicts(tree, n, bytes_of("0"), 1, 0, list, 4) == AHB_ACCEPTED + AHB_FALSE);
     kept(list, 0, sizeof list);
-    assert(ahb_verdicts(tree, n, bytes_of("0"), 1, 255, list, 4) == AHB_ACCEPTED + 2);
-    kept(list, 4, sizeof list);
+    assert(ahb_verdicts(tree, n, bytes_of("0"), 1, 255, list, 4) == AHB_ACCEPTED + 1);
+    kept(list, 2, sizeof list);
 
-    assert(violations("violations of 0", tree, n, bytes_of("0"), 1, 4) == AHB_ACCEPTED + 2);
-    assert(violations("violations of 0, one short", tree, n, bytes_of("0"), 1, 3) == AHB_NO_ROOM);
+    assert(violations("violations of 0", tree, n, bytes_of("0"), 1, 2) == AHB_ACCEPTED + 1);
+    assert(violations("violations of 0, one short", tree, n, bytes_of("0"), 1, 1) == AHB_NO_ROOM);
     assert(violations("violations of 0, no room", tree, n, bytes_of("0"), 1, 0) == AHB_NO_ROOM);
     assert(violations("violations of 1, no room", tree, n, bytes_of("1"), 1, 0) == AHB_ACCEPTED);
     assert(violations("violations of nothing", tree, n, NULL, 0, AHB_VIOLATIONS_SIZE) == AHB_ACCEPTED + 3);

@@ -8,8 +8,8 @@
  * that is there, and its pointer not NULL. Where a length is 0 the functions at the end of this header take any
  * pointer, NULL too, and put another in its place: call those. The three functions of the library itself,
  * ahb_read, ahb_presence and ahb_verdicts, want a pointer that is not NULL also there.
- * Nothing is allocated, kept after the call, or shared between calls. A call takes at most some 220 KiB of stack
- * (docs/BENCHMARK.md), for the deepest parentheses; usual status lines take some 5 KiB. */
+ * Nothing is allocated, kept after the call, or shared between calls. A call takes at most some 170 KiB of stack
+ * (docs/BENCHMARK.md), for the deepest parentheses; usual status lines take up to 19 KiB. */
 #ifndef AHB_H
 #define AHB_H
 
@@ -28,7 +28,7 @@ extern "C" {
 
 /* Buffers that hold every result. */
 #define AHB_TREE_SIZE 6150      /* a tree */
-#define AHB_VIOLATIONS_SIZE 512 /* the numbers of violated citations, 2 bytes each, the low one first */
+#define AHB_VIOLATIONS_SIZE 512 /* the numbers of all citations, 2 bytes each, the low one first */
 
 /* Why an input is turned back. */
 enum ahb_refusal {
@@ -130,7 +130,8 @@ static inline uint64_t ahb_format_truth(const uint8_t *tree, size_t tree_length,
                         AHB_VERDICT_TRUTH, &none, 0);
 }
 
-/* The violated citations of a tree for a value. Their numbers are written to the beginning of list. */
+/* The violations of a tree for a value: the violated citations for which the whole and every group around them are
+ * False. Their numbers are written to the beginning of list. */
 static inline uint64_t ahb_format_violations(const uint8_t *tree, size_t tree_length, const uint8_t *value,
                                              size_t value_length, uint8_t *list, size_t list_length) {
     uint8_t none = 0;
@@ -147,7 +148,7 @@ static inline enum ahb_kind ahb_kind_of(uint64_t answer) {
 }
 static inline size_t ahb_length_of(uint64_t answer) { return (size_t)(answer & 0xFFFF); }
 
-/* Of an accepted answer of ahb_verdicts: the format truth by mode 0, else the count of violated citations. */
+/* Of an accepted answer of ahb_verdicts: the format truth by mode 0, else the count of violations. */
 static inline enum ahb_truth ahb_truth_of(uint64_t answer) { return (enum ahb_truth)(answer - AHB_ACCEPTED); }
 static inline size_t ahb_count_of(uint64_t answer) { return (size_t)(answer - AHB_ACCEPTED); }
 

@@ -4,7 +4,7 @@ use crate::model::reading::{Token, after_word, tokens};
 use crate::model::tree::Node;
 use crate::model::{self, is_900, is_boundary, is_other_form};
 use crate::oracle::refusal::NO_ROOM;
-use crate::oracle::{self, Answer, Origin};
+use crate::oracle::{self, Answer, Origin, value};
 use crate::request::{self, BAD_REQUEST, Function};
 
 /// Why requests are taken out, in the words of the summary.
@@ -30,9 +30,9 @@ pub struct Asked {
     pub model: Model,
 }
 
-/// UB1, UB2 and UB3 on a value that is not in full form are the model's: the original asks less of a value.
-/// The first rule that covers a request counts.
-const RULES: [Rule; 7] = [
+/// What the model answers in the original's place; the first rule that covers a request counts. Of UB1, UB2 and UB3 on a value that
+/// is not in full form the original asks less.
+const RULES: [Rule; 9] = [
     Rule { reason: "UB1 to UB3 on a value not in full form", covers: boundary_alone, still: Some(was_held) },
     Rule {
         reason: "format truth where UB1 to UB3 meet a value not in full form, and 900 is cited",
@@ -45,9 +45,20 @@ const RULES: [Rule; 7] = [
         still: Some(was_higher),
     },
     Rule {
+        reason: "violations where UB1 to UB3 meet a value not in full form, and a choice is below the root",
+        covers: |function, fields| boundary_violations(function, fields) && choice_below_root(fields[0]),
+        still: Some(one_in_both),
+    },
+    Rule {
         reason: "violations where UB1 to UB3 meet a value not in full form",
         covers: boundary_violations,
         still: Some(listed_more),
+    },
+    // A choice below the root that is not False: there the original lists what its other branches violate.
+    Rule {
+        reason: "violations where a choice is below the root",
+        covers: violations_below_choice,
+        still: Some(listed_less),
     },
     // What cites a number equal to 900 is the model's: the original has 900 among the Format numbers.
     Rule { reason: "the kind of a number equal to 900", covers: kind_of_900, still: Some(was_format) },
@@ -75,6 +86,17 @@ fn boundary_violations(function: Function, fields: &[&[u8]]) -> bool {
 
 fn boundary_in_tree(tree: &[u8], value: &[u8]) -> bool {
     is_other_form(value) && tree.windows(2).any(|two| two == b"UB") && tree_cites(tree, is_boundary)
+}
+
+fn violations_below_choice(function: Function, fields: &[&[u8]]) -> bool {
+    function == Function::Violations && choice_below_root(fields[0]) && value(fields[1]).is_ok()
+}
+
+/// Whether the bytes are a tree in which a row after the first is that of an Or or a Xor.
+fn choice_below_root(tree: &[u8]) -> bool {
+    let rows = tree.first_chunk().map_or(0, |count| usize::from(u16::from_le_bytes(*count)));
+    let below = tree.get(18..12 + 6 * rows).unwrap_or_default();
+    below.chunks(6).any(|row| matches!(row[0], 3 | 4)) && Node::of_bytes(tree).is_some()
 }
 
 fn tree_cites(tree: &[u8], is: fn(&[u8]) -> bool) -> bool {
@@ -153,13 +175,42 @@ fn was_higher(model: &Answer, original: &Answer) -> bool {
     model == original || original.is_ok() && said(model, "0") || said(model, "1") && said(original, "2")
 }
 
+/// Whether a list has these numbers, in this order.
+fn lists(list: &[u8], numbers: &[u8]) -> bool {
+    let mut listed = list.chunks(2);
+    numbers.chunks(2).all(|number| listed.any(|one| one == number))
+}
+
 /// What the original lists, in its order, and maybe more; or the refusal of a buffer that is too short.
 fn listed_more(model: &Answer, original: &Answer) -> bool {
     let (Ok((_, model)), Ok((_, original))) = (model, original) else {
         return *model == Err(NO_ROOM);
     };
-    let mut listed = model.chunks(2);
-    original.chunks(2).all(|number| listed.any(|one| one == number))
+    lists(model, original)
+}
+
+/// A part of what the original lists, in its order, and empty only where that is; the refusal of a buffer that is too
+/// short only where the original's is the same.
+fn listed_less(model: &Answer, original: &Answer) -> bool {
+    match (model, original) {
+        (Ok((_, model)), Ok((_, original))) => {
+            lists(original, model) && model.is_empty() == original.is_empty()
+        }
+        (Ok((_, model)), Err(NO_ROOM)) => !model.is_empty(),
+        _ => model == original,
+    }
+}
+
+/// A number that the original lists too, if it lists any, since what is False for the original is False for the model; or the
+/// refusal of a buffer that is too short.
+fn one_in_both(model: &Answer, original: &Answer) -> bool {
+    match (model, original) {
+        (Ok((_, model)), Ok((_, original))) => {
+            original.is_empty() || original.chunks(2).any(|number| lists(model, number))
+        }
+        (Ok((_, model)), Err(NO_ROOM)) => !model.is_empty(),
+        _ => *model == Err(NO_ROOM),
+    }
 }
 
 impl Asked {
@@ -253,7 +304,7 @@ mod tests {
 
     #[test]
     fn a_value_not_in_full_form_is_taken_out() {
-        let [alone, both, truth, listed, ..] = RULES.map(|rule| rule.reason);
+        let [alone, both, truth, mixed, listed, ..] = RULES.map(|rule| rule.reason);
         let due = |reason, word: &str| Ok((Ok((word.to_owned(), Vec::new())), Origin::Model(reason)));
         for id in [b"UB1", b"UB2", b"UB3"] {
             for value in ["202607012200draft+00", "2026+7012200+00", "-00002292300+00", "", "é"] {
@@ -269,7 +320,99 @@ mod tests {
         assert_eq!(ASKED.ask(Function::Truth, &[&tree("[UB1] ∧ [900]"), value]), due(both, "0"));
         assert_eq!(ASKED.ask(Function::Truth, &[&tree("[UB3] ∨ [UB4]"), value]), due(truth, "1"));
         let said = ASKED.ask(Function::Violations, &[&tree("[900] ∧ [902] ∧ [UB1]"), value, &[9; 4]]);
-        assert_eq!(said, Ok((Ok(("ok 2".to_owned(), vec![1, 0, 2, 0])), Origin::Model(listed))));
+        assert_eq!(said, Ok((list(&[1, 2]), Origin::Model(listed))));
+        for (text, numbers) in [
+            ("([UB1] ∨ [903]) ∧ [914]", &[0, 1, 2][..]),
+            ("([931] ∨ [903]) ∧ [UB1]", &[2]),
+            ("([931] ⊻ [903]) ∧ [900] ∧ [914] [UB1]", &[3, 4]),
+            ("([931] ∧ ([903] ∨ [900])) ∨ [UB1]", &[]),
+        ] {
+            let said = ASKED.ask(Function::Violations, &[&tree(text), value, &[9; 6]]);
+            assert_eq!(said, Ok((list(numbers), Origin::Model(mixed))), "{text}");
+        }
+    }
+
+    fn list(numbers: &[u8]) -> Answer {
+        Ok((format!("ok {}", numbers.len()), numbers.iter().flat_map(|number| [*number, 0]).collect()))
+    }
+
+    #[test]
+    fn violations_where_a_choice_is_below_the_root_are_taken_out() {
+        let below = RULES[5].reason;
+        for (text, value, numbers) in [
+            ("([902] ∨ [903]) [1] ∧ [914]", "0", &[3][..]),
+            ("([902] ∨ [903]) [1] ∧ [914]", "5", &[]),
+            ("([902] ⊻ [903]) [914]", "-1", &[0, 1, 2]),
+            ("([902] ∧ ([903] ∨ [1])) ∨ [914]", "0", &[]),
+            ("([900] ∨ [903]) ∧ [914]", "0", &[2]),
+            ("([UB1] ∨ [903]) ∧ [914]", "202607012200+00", &[2]),
+            ("([UB1] ⊻ [0900] ⊻ [903]) ∧ [UB2]", "202607012200+00", &[3]),
+        ] {
+            let tree = expression(text).expect("an expression").bytes();
+            for room in 0..=7 {
+                let said = ASKED.ask(Function::Violations, &[&tree, value.as_bytes(), &[9; 7][..room]]);
+                let due = if room < 2 * numbers.len() { Err(NO_ROOM) } else { list(numbers) };
+                assert_eq!(said, Ok((due, Origin::Model(below))), "{text}, {room}");
+            }
+        }
+    }
+
+    #[test]
+    fn other_violations_and_truths_are_not() {
+        let tree = |text| expression(text).expect("an expression").bytes();
+        for (text, numbers) in [
+            ("[902] ∨ [903]", &[][..]),
+            ("[903] ⊻ [914]", &[0, 1]),
+            ("([902] [903] ∧ [914]) ∨ ([927] [1])", &[1, 2, 3]),
+            ("[902] ∧ [903] [914]", &[1, 2]),
+            ("[903]", &[0]),
+        ] {
+            let said = ASKED.ask(Function::Violations, &[&tree(text), b"0", &[9; 6]]);
+            assert_eq!(said, Ok((list(numbers), Origin::Rust)), "{text}");
+        }
+        let below = tree("([902] ∨ [903]) ∧ [914]");
+        let truth = ASKED.ask(Function::Truth, &[&below, b"0"]);
+        assert_eq!(truth.map(|(_, origin)| origin), Ok(Origin::Rust));
+        for (tree, value, why) in
+            [(&below[1..], &b"0"[..], 15), (&below, &[b'0'; 1_025], 10), (&below, b"\xff", 11)]
+        {
+            assert_eq!(ASKED.ask(Function::Violations, &[tree, value, b""]), Ok((Err(why), Origin::Paper)));
+        }
+    }
+
+    /// Holds a relation to what it is due to say of pairs of answers, the model's and the original's.
+    fn says(still: fn(&Answer, &Answer) -> bool, due: bool, pairs: &[(Answer, Answer)]) {
+        for (model, original) in pairs {
+            assert_eq!(still(model, original), due, "{model:?} beside {original:?}");
+        }
+    }
+
+    #[test]
+    fn lists_beside_the_originals() {
+        let short = || Err(NO_ROOM);
+        let same = [(list(&[]), list(&[])), (list(&[1, 3]), list(&[1, 3])), (short(), short())];
+        let (part, more) = ((list(&[3]), list(&[1, 3])), (list(&[0, 1, 3]), list(&[1, 3])));
+        let (none, some) = ((list(&[]), list(&[1])), (list(&[1]), list(&[])));
+        let turned = (list(&[3, 1]), list(&[1, 3]));
+        let (fits, longer) = ((list(&[1]), short()), (short(), list(&[1])));
+        let wrong = [(list(&[]), short()), (list(&[1]), Err(15)), (Err(15), list(&[1])), (Err(15), short())];
+
+        says(listed_less, true, &same);
+        says(listed_less, true, &[part.clone(), fits.clone(), (Err(11), Err(11))]);
+        says(listed_less, false, &wrong);
+        says(listed_less, false, &[more.clone(), none.clone(), some.clone(), turned.clone(), longer.clone()]);
+        says(listed_less, false, &[(list(&[3, 3]), list(&[1, 3])), (short(), list(&[]))]);
+
+        says(one_in_both, true, &same);
+        says(one_in_both, true, &[part.clone(), more.clone(), some.clone(), fits.clone(), longer.clone()]);
+        says(one_in_both, true, &[(list(&[2, 3]), list(&[1, 2]))]);
+        says(one_in_both, false, &wrong);
+        says(one_in_both, false, &[none.clone(), (list(&[0, 2]), list(&[1, 3]))]);
+
+        says(listed_more, true, &same);
+        says(listed_more, true, &[more, some, longer]);
+        says(listed_more, false, &wrong);
+        says(listed_more, false, &[part, none, turned, fits]);
     }
 
     #[test]

@@ -311,7 +311,9 @@ impl Producer {
     /// Lines as they stand, all of them for replay.
     fn take_lines(&mut self, text: &[u8]) {
         for line in text.split_inclusive(|b| *b == b'\n') {
-            self.line = line.strip_suffix(b"\n").unwrap_or(line).to_vec();
+            let line = [line.strip_suffix(b"\n").unwrap_or(line)];
+            let _request = Request(Function::Protocol, &line);
+            self.line = line[0].to_vec();
             let function = request::parse(&self.line).map_or(Function::Protocol, |(function, _)| function);
             if let Some(origin) = self.answer(function) {
                 self.pipe(function, origin);

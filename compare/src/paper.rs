@@ -266,10 +266,121 @@ fn judgements(all: &mut Examples) {
     presences(all, &program);
     say(all, Function::Pakete, &[&program, b""], "ok 0 -");
     say(all, Function::Truth, &[&program, b"0"], "0");
-    say(all, Function::Violations, &[&program, b"0", &[9; 5]], "ok 2 0100030009");
-    say(all, Function::Violations, &[&program, b"0", &[9; 3]], "refused 14 090909");
+    for (room, answer) in [
+        (0, "refused 14 -"),
+        (1, "refused 14 09"),
+        (2, "ok 1 0300"),
+        (4, "ok 1 03000909"),
+        (5, "ok 1 0300090909"),
+    ] {
+        say(all, Function::Violations, &[&program, b"0", &vec![9; room]], answer);
+    }
     nine_hundred(all);
     not_in_full_form(all);
+    listed_groups(all);
+    listed_deeper(all);
+    listed_with_others(all);
+    listed_many(all);
+}
+
+/// Says which citations are listed, into a buffer that holds just these.
+fn say_listed(all: &mut Examples, rows: &[Row], texts: &[&str], value: &str, listed: &[u8]) {
+    let numbers: Vec<u8> = listed.iter().flat_map(|number| [*number, 0]).collect();
+    let answer = format!("ok {} {}", listed.len(), hex(&numbers));
+    let lent = vec![9; numbers.len()];
+    say(all, Function::Violations, &[&tree(rows, texts), value.as_bytes(), &lent], &answer);
+}
+
+/// A group of two citations, of a kind, and a third one beside it, as the operands of a node of another kind.
+fn group_first(whole: u8, group: u8) -> [Row; 5] {
+    [(whole, 2, 5), (group, 2, 3), (0, 0, 1), (0, 1, 1), (0, 2, 1)]
+}
+
+/// The same with the group at the end.
+fn group_last(whole: u8, group: u8) -> [Row; 5] {
+    [(whole, 2, 5), (0, 0, 1), (group, 2, 3), (0, 1, 1), (0, 2, 1)]
+}
+
+/// A group and a citation: 902 holds for `0` and not for `-1`, 903 and 914 are violated by both, 951 has no evaluator.
+fn listed_groups(all: &mut Examples) {
+    let due: [([Row; 5], [&str; 3], &str, &[u8]); 15] = [
+        (group_first(2, 3), ["902", "903", "914"], "0", &[2]),
+        (group_first(2, 3), ["902", "903", "914"], "-1", &[0, 1, 2]),
+        (group_first(2, 3), ["902", "903", "914"], "5", &[]),
+        (group_first(1, 3), ["902", "903", "914"], "0", &[2]),
+        (group_first(1, 4), ["902", "903", "914"], "0", &[2]),
+        (group_first(2, 1), ["902", "903", "914"], "0", &[1, 2]),
+        (group_first(2, 3), ["902", "951", "914"], "-1", &[2]),
+        (group_first(2, 3), ["951", "902", "914"], "-1", &[2]),
+        (group_first(2, 3), ["903", "951", "902"], "0", &[]),
+        (group_first(2, 3), ["903", "914", "902"], "0", &[0, 1]),
+        (group_first(2, 3), ["903", "902", "903"], "0", &[2]),
+        (group_last(2, 3), ["903", "903", "902"], "0", &[0]),
+        (group_last(3, 2), ["903", "902", "914"], "0", &[0, 2]),
+        (group_last(3, 1), ["903", "902", "902"], "0", &[]),
+        (group_last(4, 3), ["903", "914", "903"], "0", &[0, 1, 2]),
+    ];
+    for (rows, texts, value, listed) in due {
+        say_listed(all, &rows, &texts, value, listed);
+    }
+}
+
+/// Groups in groups, and a Xor of which two operands hold, which is judged as an Or.
+fn listed_deeper(all: &mut Examples) {
+    let xor = [(2, 2, 6), (4, 3, 4), (0, 0, 1), (0, 1, 1), (0, 2, 1), (0, 3, 1)];
+    say_listed(all, &xor, &["902", "909", "903", "914"], "0", &[3]);
+    say_listed(all, &xor, &["902", "909", "903", "914"], "-1", &[0, 1, 2, 3]);
+    // an And in an Or in an And
+    let and = [(2, 2, 7), (3, 2, 5), (2, 2, 3), (0, 0, 1), (0, 1, 1), (0, 2, 1), (0, 3, 1)];
+    say_listed(all, &and, &["902", "903", "910", "914"], "0", &[3]);
+    say_listed(all, &and, &["902", "903", "914", "910"], "0", &[1, 2]);
+    say_listed(all, &and, &["902", "903", "910", "914"], "A", &[0, 1, 2, 3]);
+    // an Or in an And in an Or
+    let or = [(3, 2, 7), (2, 2, 5), (0, 0, 1), (3, 2, 3), (0, 1, 1), (0, 2, 1), (0, 3, 1)];
+    say_listed(all, &or, &["903", "914", "902", "927"], "0", &[0, 3]);
+    say_listed(all, &or, &["903", "914", "927", "903"], "0", &[0, 1, 2, 3]);
+    say_listed(all, &or, &["903", "914", "927", "902"], "0", &[]);
+}
+
+/// Groups with 900, which counts as True, and with UB1, which holds for the value in full form alone; 931 holds for both.
+fn listed_with_others(all: &mut Examples) {
+    let (full, other) = ("202607012200+00", "202607012200draft+00");
+    let due: [([&str; 3], &str, &[u8]); 7] = [
+        (["900", "903", "914"], "0", &[2]),
+        (["902", "903", "+900"], "-1", &[0, 1]),
+        (["UB1", "903", "914"], full, &[2]),
+        (["UB1", "903", "914"], other, &[0, 1, 2]),
+        (["931", "903", "UB1"], other, &[2]),
+        (["931", "903", "UB1"], full, &[]),
+        (["UB1", "0900", "914"], other, &[2]),
+    ];
+    for (texts, value, listed) in due {
+        say_listed(all, &group_first(2, 3), &texts, value, listed);
+    }
+    let three = [(2, 3, 6), (3, 2, 3), (0, 0, 1), (0, 1, 1), (0, 2, 1), (0, 3, 1)];
+    say_listed(all, &three, &["931", "903", "914", "UB1"], other, &[2, 3]);
+}
+
+/// A choice of many 903 and one 902, and 914 beside it: on `0` 902 holds, and what the choice has listed is taken back; on `-1` all
+/// are violated. Few citations are 16.
+fn listed_many(all: &mut Examples) {
+    for count in [3_u8, 14, 15, 16, 17] {
+        let mut rows = vec![(2, 2, count + 3), (3, count, count + 1)];
+        rows.extend((0..=count).map(|number| (0, number, 1)));
+        let mut texts = vec!["903"; usize::from(count)];
+        texts[usize::from(count) - 1] = "902";
+        texts.push("914");
+        let every: Vec<u8> = (0..=count).collect();
+        say_listed(all, &rows, &texts, "-1", &every);
+        say_listed(all, &rows, &texts, "5", &[]);
+        let whole = tree(&rows, &texts);
+        say(all, Function::Truth, &[&whole, b"0"], "0");
+        say(all, Function::Truth, &[&whole, b"5"], "2");
+        for (room, rest) in [(2, ""), (9, "09090909090909")] {
+            let answer = format!("ok 1 {}00{rest}", hex(&[count]));
+            say(all, Function::Violations, &[&whole, b"0", &vec![9; room]], &answer);
+        }
+    }
 }
 
 /// Values that hold 931 and violate a day boundary's condition, since they end `+00` and are not in full form.

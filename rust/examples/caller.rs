@@ -108,8 +108,8 @@ fn judging() {
     assert_eq!(said("truth of no UTF-8", truth(&tree, b"\xFF")), Err(Refusal::NotUtf8));
     assert_eq!(said("truth without a tree", truth(&[], &[])), Err(Refusal::NotATree));
 
-    assert_eq!(listed("violations of 0", &tree, b"0", 4), Ok(2));
-    assert_eq!(listed("violations of 0, one short", &tree, b"0", 3), Err(Refusal::NoRoom));
+    assert_eq!(listed("violations of 0", &tree, b"0", 2), Ok(1));
+    assert_eq!(listed("violations of 0, one short", &tree, b"0", 1), Err(Refusal::NoRoom));
     assert_eq!(listed("violations of 0, no room", &tree, b"0", 0), Err(Refusal::NoRoom));
     assert_eq!(listed("violations of 1, no room", &tree, b"1", 0), Ok(0));
     assert_eq!(listed("violations of nothing", &tree, b"", VIOLATIONS_SIZE), Ok(3));

@@ -1,7 +1,7 @@
 //! AHB conditions: reading, presence and verdicts, from the proved library `libahb.a`.
 //!
 //! A refusal leaves every lent byte as it was. Nothing is allocated, and nothing is kept between calls. A call takes at
-//! most some 220 KiB of stack, for the deepest parentheses.
+//! most some 170 KiB of stack, for the deepest parentheses.
 
 use std::fmt;
 
@@ -15,7 +15,7 @@ pub const CITATION_LIMIT: usize = 256;
 pub const CITED_LIMIT: usize = 2048;
 /// A buffer of this length holds every tree.
 pub const TREE_SIZE: usize = 6150;
-/// A list of this length holds the numbers of all violated citations, 2 bytes each, the low one first.
+/// A list of this length holds the numbers of all violations, 2 bytes each, the low one first.
 pub const VIOLATIONS_SIZE: usize = 512;
 /// The answer byte of a citation whose evaluation failed; the others are the numbers of [`Truth`].
 pub const FAILED: u8 = 4;
@@ -249,7 +249,8 @@ pub fn truth(tree: &[u8], value: &[u8]) -> Result<Truth, Refusal> {
     verdicts(tree, value, FIRST_MODE, &mut []).map(|said| Truth::ALL[said])
 }
 
-/// How many citations of a tree a value violates; their numbers begin `list`, 2 bytes each, the low one first.
+/// How many violations a tree has for a value: violated citations for which the whole and every group around them are False. Their numbers begin
+/// `list`, 2 bytes each, the low one first.
 pub fn violations(tree: &[u8], value: &[u8], list: &mut [u8]) -> Result<usize, Refusal> {
     verdicts(tree, value, SECOND_MODE, list)
 }

@@ -32,7 +32,7 @@ fn status(text: &[u8], room: usize) -> (Result<Status, Refusal>, Vec<u8>) {
     lent(room, |(_, length): Status| length.unwrap_or(0), |out| read_status(text, out))
 }
 
-/// The number of violated citations, and their numbers.
+/// How many violations there are, and their numbers.
 fn listed(tree: &[u8], value: &[u8], room: usize) -> (Result<usize, Refusal>, Vec<u16>) {
     let (answer, list) = lent(room, |count| 2 * count, |list| violations(tree, value, list));
     (answer, list.chunks(2).map(|b| u16::from_le_bytes([b[0], b[1]])).collect())
@@ -211,7 +211,7 @@ fn values_turned_back() {
     let tree = tree_of(LINE);
     let zeros = [b'0'; VALUE_LIMIT + 1];
     assert_eq!(truth(&tree, &zeros[1..]), Ok(Truth::False));
-    assert_eq!(listed(&tree, &zeros[1..], 4).0, Ok(2));
+    assert_eq!(listed(&tree, &zeros[1..], 2).0, Ok(1));
     for (value, why) in [(&zeros[..], Refusal::TooLong), (b"\xFF", Refusal::NotUtf8)] {
         assert_eq!(truth(&tree, value), Err(why));
         assert_eq!(listed(&tree, value, 4).0, Err(why));
@@ -221,9 +221,10 @@ fn values_turned_back() {
 #[test]
 fn room_for_violations() {
     let tree = tree_of(LINE);
-    assert_eq!(listed(&tree, b"0", 4), (Ok(2), vec![1, 3]));
-    assert_eq!(listed(&tree, b"0", 5), (Ok(2), vec![1, 3]));
-    for room in [0, 3] {
+    assert_eq!(listed(&tree, b"0", 2), (Ok(1), vec![3]));
+    assert_eq!(listed(&tree, b"0", 3), (Ok(1), vec![3]));
+    assert_eq!(listed(&tree, b"", 6), (Ok(3), vec![0, 1, 3]));
+    for room in [0, 1] {
         assert_eq!(listed(&tree, b"0", room).0, Err(Refusal::NoRoom));
     }
     assert_eq!(listed(&tree, b"1", 0), (Ok(0), Vec::new()));

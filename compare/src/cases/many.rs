@@ -3,6 +3,7 @@
 use super::Cases;
 use super::reading::{ask_near, damaged, write_chain};
 use super::trees::{VALUES, answers, random_tree};
+use crate::model::listed_alike;
 use crate::oracle::{judged_alike, read};
 use crate::original::conditions::Expr;
 use crate::request::Function::{Eval, Expr as ExprText, Truth, Violations};
@@ -47,6 +48,7 @@ fn judge(cases: &mut Cases, expr: &Expr) {
         cases.trees += 1;
         ask_both(cases, &tree, &answers, value);
         if flat_tree != tree {
+            assert!(listed_alike(&tree, &flat_tree, value), "violations of a tree and its flat tree: {expr}");
             ask_both(cases, &flat_tree, &answers, value);
         }
     }

@@ -3,11 +3,12 @@
 use std::collections::{HashMap, HashSet};
 
 use super::Cases;
+use crate::model::listed_alike;
 use crate::oracle::{LONGEST_TEXT, LONGEST_VALUE, judged_alike, read};
 use crate::original::conditions::Expr;
 use crate::random::hash;
 use crate::request::Function::{self, *};
-use crate::tree::{NODE_ROW, encode, encode_parts, flat, node};
+use crate::tree::{NODE_ROW, encode, encode_parts, flat, node, operands};
 
 pub const TREE_FUNCTIONS: [Function; 7] = [Tree, Print, Cited, Eval, Pakete, Truth, Violations];
 
@@ -53,6 +54,10 @@ impl Judged {
         cases.trees += 1;
         ask_tree(cases, &bytes, &answers, value.as_bytes(), expr.cited().len());
         if flat_bytes != bytes {
+            assert!(
+                listed_alike(&bytes, &flat_bytes, value),
+                "violations of a tree and its flat tree: {print}"
+            );
             cases.ask_lent_near(Print, &[&flat_bytes], print.len());
             ask_tree(cases, &flat_bytes, &answers, value.as_bytes(), expr.cited().len());
         }
@@ -92,6 +97,7 @@ pub fn trees(cases: &mut Cases) {
     wrong_parts(cases);
     random_rows(cases);
     nine_hundred(cases);
+    choices_below_the_root(cases);
 }
 
 /// Every tree shape of so many leaves, its citations blank.
@@ -166,6 +172,23 @@ fn ask_each(cases: &mut Cases, expr: &Expr) {
         cases.ask(Truth, &[&tree, value.as_bytes()]);
         for room in 0..=4 {
             cases.ask(Violations, &[&tree, value.as_bytes(), &[0xAA; 4][..room]]);
+        }
+    }
+}
+
+/// Violations of every tree of three citations with a choice below the root: the values hold some of the conditions and violate
+/// others, and the buffers reach from too short to longer than needed.
+fn choices_below_the_root(cases: &mut Cases) {
+    const CITED: [&str; 6] = ["902", "903", "931", "951", "900", "UB1"];
+    let is_choice = |operand: &Expr| matches!(operand, Expr::Or(_) | Expr::Xor(_));
+    let shapes = shapes(3).into_iter().filter(|shape| operands(shape).iter().any(is_choice));
+    for (shape, chosen) in shapes.flat_map(|shape| (0..6_usize.pow(3)).map(move |n| (shape.clone(), n))) {
+        let mut texts = digits(chosen, 6, 3).into_iter().map(|one| CITED[one].to_owned());
+        let tree = encode(&filled(&shape, &mut texts));
+        for value in ["0", "202607012200+00", "202607010400+00", "202607012200draft+00"] {
+            for room in 0..=7 {
+                cases.ask(Violations, &[&tree, value.as_bytes(), &[0xAA; 7][..room]]);
+            }
         }
     }
 }
@@ -430,11 +453,39 @@ fn random_rows(cases: &mut Cases) {
 #[cfg(test)]
 mod tests {
     use super::*;
-    use crate::tree::operands;
+    use crate::asked::ASKED;
+    use crate::model::answer;
+    use crate::oracle::{Origin, ask};
 
     #[test]
     fn counts_of_shapes() {
         assert_eq!([1, 2, 3, 4].map(|n| shapes(n).len()), [1, 4, 36, 404]);
         assert!(shapes(4).iter().all(|shape| operands(shape).len() > 1));
+    }
+
+    /// Of small trees the model's list differs from the original's in some that are taken out, and in no other.
+    #[test]
+    fn lists_differ_only_where_a_choice_is_below_the_root() {
+        let mut differ = 0;
+        for shape in (1..=4).flat_map(shapes) {
+            for chosen in 0..81 {
+                let mut texts =
+                    digits(chosen, 3, 4).into_iter().map(|one| ["902", "903", "951"][one].to_owned());
+                let tree = encode(&filled(&shape, &mut texts));
+                let fields: [&[u8]; 3] = [&tree, b"0", &[0xAA; 8]];
+                let (original, model) = (ask(Violations, &fields).0, answer(Violations, &fields));
+                let (due, whose) = ASKED.ask(Violations, &fields).expect("an answer");
+                assert_eq!(Some(&due), model.as_ref());
+                let taken_out = matches!(whose, Origin::Model(_));
+                assert_eq!(taken_out, operands(&shape).iter().any(has_choice), "{shape:?}");
+                assert!(taken_out || due == original, "{shape:?}, {chosen}");
+                differ += usize::from(due != original);
+            }
+        }
+        assert!(differ > 1_000, "{differ}");
+    }
+
+    fn has_choice(expr: &Expr) -> bool {
+        matches!(expr, Expr::Or(_) | Expr::Xor(_)) || operands(expr).iter().any(has_choice)
     }
 }

@@ -1,6 +1,6 @@
-//! Presence, package rows, format truth and violations of a tree (docs/SEMANTICS.md). The model's own are the kinds, and that
-//! a day boundary is written in full form; what else a condition says of a value by itself, and the bounds of a Paket's
-//! text, the original is asked.
+//! Presence, package rows, format truth and violations of a tree (docs/SEMANTICS.md). The model's own are the kinds, which
+//! violations are listed, and that a day boundary is written in full form; what else a condition says of a value by itself,
+//! and the bounds of a Paket's text, the original is asked.
 
 use super::is_boundary;
 use super::kinds::{Kind, kind};
@@ -96,13 +96,22 @@ pub fn format_truth(node: &Node, value: &str) -> Truth {
     }
 }
 
-/// The numbers of the violated citations, if the format truth is False.
-pub fn violations(node: &Node, value: &str) -> Vec<usize> {
-    if format_truth(node, value) != False {
-        return Vec::new();
+/// For each citation in turn the format truths from its own up to that of the whole, one for each node on the way.
+fn ways(node: &Node, value: &str) -> Vec<Vec<Truth>> {
+    let own = vec![format_truth(node, value)];
+    match node {
+        Node::Cited(_) => vec![own],
+        Node::Joined(_, operands) => {
+            let below = operands.iter().flat_map(|operand| ways(operand, value));
+            below.map(|way| [way, own.clone()].concat()).collect()
+        }
     }
-    let texts = node.texts();
-    (0..texts.len()).filter(|number| counts(texts[*number], value) == False).collect()
+}
+
+/// The numbers of the citations that are violated where every group around them, and so the whole, is False.
+pub fn violations(node: &Node, value: &str) -> Vec<usize> {
+    let ways = ways(node, value);
+    (0..ways.len()).filter(|number| ways[*number].iter().all(|truth| *truth == False)).collect()
 }
 
 /// The rows of the Paket citations that can be read.
@@ -210,6 +219,37 @@ mod tests {
         assert_eq!(format_truth(&tree("[900] ∨ [902]"), "-1"), True);
         assert_eq!(format_truth(&tree("[900] ∧ [951]"), "0"), Unknown);
         assert_eq!(violations(&tree("[900] ∧ [902]"), "-1"), [1]);
-        assert_eq!(violations(&tree("([902] ∨ [903]) [1] ∧ [914]"), "0"), [1, 3]);
+        assert_eq!(violations(&tree("([900] ∨ [902]) ∧ [914]"), "-1"), [2]);
+    }
+
+    /// On `0` are 902, 909 and 910 held, 903, 914, 927 and 929 violated; 951 has no evaluator.
+    #[test]
+    fn violations_in_groups_that_are_false() {
+        let due: [(&str, &[usize]); 19] = [
+            ("[903]", &[0]),
+            ("([902] ∨ [903]) [1] ∧ [914]", &[3]),
+            ("([902] ∨ [903]) [914]", &[2]),
+            ("([902] ∨ [903]) [1] ∧ [909]", &[]),
+            ("[903] ∨ [902]", &[]),
+            ("[903] ∨ [951]", &[]),
+            ("([903] ∨ [951]) ∧ [902]", &[]),
+            ("([903] ∨ [951]) ∧ [914]", &[2]),
+            ("([903] ∨ [914]) ∧ [902]", &[0, 1]),
+            ("([902] ⊻ [909] ⊻ [903]) ∧ [914]", &[3]),
+            ("([903] ⊻ [927]) [902] ∧ [914]", &[0, 1, 3]),
+            ("([902] ∧ [903]) ∨ [914]", &[1, 2]),
+            ("(([902] ∧ [903]) ∨ [910]) ∧ [914]", &[3]),
+            ("(([902] ∧ [903]) ∨ [914]) ∧ [910]", &[1, 2]),
+            ("([903] ∨ [902]) ∧ [903]", &[2]),
+            ("[903] ∧ ([903] ∨ [902]) ∧ [903]", &[0, 3]),
+            ("[903] ∨ [914] ∨ [927]", &[0, 1, 2]),
+            ("[903] ⊻ ([914] ∧ ([902] ∨ [929])) ⊻ ([927] [902])", &[0, 1, 4]),
+            ("[902] ∧ [903] ∧ [914] [927]", &[1, 2, 3]),
+        ];
+        for (text, numbers) in due {
+            assert_eq!(violations(&tree(text), "0"), numbers, "{text}");
+        }
+        assert_eq!(violations(&tree("([902] ∨ [951]) ∧ [914]"), "-1"), [2]);
+        assert_eq!(violations(&tree("([902] ∨ [903]) [1] ∧ [914]"), "-1"), [0, 1, 3]);
     }
 }

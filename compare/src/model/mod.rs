@@ -39,6 +39,11 @@ pub fn answer(function: Function, fields: &[&[u8]]) -> Option<Answer> {
     })
 }
 
+/// Whether the model lists the same violations of two trees.
+pub fn listed_alike(a: &[u8], b: &[u8], value: &str) -> bool {
+    violations(a, value.as_bytes()) == violations(b, value.as_bytes())
+}
+
 /// Whether the bytes are a number equal to 900.
 pub fn is_900(bytes: &[u8]) -> bool {
     str::from_utf8(bytes).is_ok_and(|text| kinds::number(text) == Some(900))

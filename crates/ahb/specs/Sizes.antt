@@ -1,7 +1,6 @@
 -- How large an accepted answer is. Assumes nothing.
-use Rattle.std.specs.Prelude.{◌≡◌, List, [], ℕ, ◌≤◌, ◌<◌, leb, length, Ok, Err, Some, None}
+use Rattle.std.specs.Prelude.{◌≡◌, List, ℕ, ◌≤◌, ◌<◌, leb, length, Ok, Err, Some, None}
 use Rattle.std.proofs.Common.{subst, arith}
-use Rattle.laws.specs.Tests.{cond_both}
 use Rattle.refusal.specs.Result.{unless, unless_ok}
 use Rattle.refusal.specs.declared.Refusal.TheVariants.{NoRoom, NotATree}
 use Rattle.refusal.specs.Known.{Among, unless-among, known_among, map-among, then-among}
@@ -15,11 +14,10 @@ use Rattle.grammar.specs.Bytes.{bytes_of, is_tree, tree_at, tree_of}
 use Rattle.grammar.proofs.Theorems.{bytes-length, few_bytes}
 use Rattle.grammar.specs.Outcome.{Written, Outcome, answer_of, StatusSaid, stated_bytes, parse_answer, status_answer}
 use Rattle.grammar.proofs.Known.{admitted-among, reading_known, status_known, tree_of_known}
-use Rattle.semantics.specs.Rules.{is_false}
-use Rattle.semantics.specs.Truth.{counts_on, truth}
-use Rattle.semantics.specs.Violations.{violated, violations_with, violations}
-use Rattle.semantics.proofs.Sizes.{violated_few}
-use Rattle.semantics.specs.Answers.{numbered, violations_answer}
+use Rattle.semantics.specs.Truth.{counts_on}
+use Rattle.semantics.specs.Violations.{violations}
+use Rattle.semantics.proofs.Sizes.{violations_fit}
+use Rattle.semantics.specs.Answers.{list_outcome, violations_answer}
 use Rattle.tree.proofs.Walks.{root}
 use Rattle.ahb.specs.Numbers.{code_step}
 
@@ -77,9 +75,7 @@ abbrev pub Few : ℕ → Type 0
 Few n = n ≤ citation_limit
 
 violations-few : (value : List ℕ) (e : Expr) → Fits e → Few (length (violations value e))
-unfolding violations_with
-violations-few value e f =
-    cond_both (λ (l : List ℕ). Few (length l)) (is_false (truth value e)) (violated (counts_on value) 0 e) [] (λ _. omega (arith, violated_few (counts_on value) 0 e, f.few)) λ _. omega arith
+violations-few value = violations_fit (counts_on value)
 
 -- a tree is that of an expression that fits the limits
 pub tree_fits : (b : List ℕ) (e : Expr) → tree_of b ≡ Ok e → Fits e
@@ -95,15 +91,15 @@ abbrev pub CountFew : Written ℕ → Type 0
 CountFew w = Few w.answer
 
 abbrev judged_by : List ℕ → Expr → Outcome ℕ
-judged_by value e = admitted value_limit value (Ok (numbered (violations value e)))
+judged_by value e = admitted value_limit value (list_outcome value e)
 
--- the count of violated citations
+-- the count of violations
 pub violations-outcome : (b value : List ℕ) → Among CountFew (violations_answer b value)
 unfolding violations_answer
 violations-outcome b value = then-among CountFew (tree_of b) (judged_by value) (known_among (λ e. Among CountFew (judged_by value e)) (tree_of b) (tree_of_known b) by)
   where
     by : (e : Expr) → tree_of b ≡ Ok e → Among CountFew (judged_by value e)
-    by e h = admitted-among CountFew value_limit value (Ok (numbered (violations value e))) (violations-few value e (tree_fits b e h))
+    by e h = admitted-among CountFew value_limit value (list_outcome value e) (violations-few value e (tree_fits b e h))
 
 -- as it is answered
 pub violations-among : (b value : List ℕ) (n : ℕ) → Among Few (answer_of (violations_answer b value) n)

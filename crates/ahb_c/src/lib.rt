@@ -28,7 +28,7 @@ pub extern "C" fn ahb_presence(tree: &[u8], answers: &[u8]) -> u32
 }
 
 // Judges a value by a tree. Accepted: 2^32, and by mode 0 the number of the format truth, the list not looked
-// at; by any other mode the count of the violated citations, whose numbers then begin the list.
+// at; by any other mode the count of the violations, whose numbers then begin the list.
 #[unsafe(no_mangle)]
 pub extern "C" fn ahb_verdicts(tree: &[u8], value: &[u8], mode: u8, list: &mut [u8]) -> u64
     ensures value { result ≡ verdict_number (answer_of (verdicts_answer mode tree.now value.now) (length list.old)) }

@@ -250,7 +250,7 @@ fn either_boundary(value: &[u8], one: Day, other: Day) -> bool
 }
 
 // Times and day boundaries. The match of `judge` is cut in four, a family of rules each, since a function here has under 40 lines.
-// A call of its own: what its arguments take of the stack would else be taken at each level of a tree.
+// A call of its own: what its arguments take of registers and stack would else be taken for every condition.
 #[inline(never)]
 fn judge_times(id: u32, value: &[u8]) -> FormatVerdict
     ensures { result ≡ judged_in time_rules id value.now }

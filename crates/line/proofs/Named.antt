@@ -1,4 +1,4 @@
--- The violated citations' numbers and texts. Assumes nothing.
+-- The violations' numbers and texts. Assumes nothing.
 use mathlib.Core.Path.{◌≡◌, refl, sym, ap, ◌∙◌, subst}
 use mathlib.Core.List.{List, [], ◌∷◌, ◌++◌, append_assoc, append-nil}
 use mathlib.Core.Bool.{Bool, true, false, cond}
@@ -7,16 +7,16 @@ use native.Mathlib.Nat.{add-zero}
 use native.Mathlib.Omega.{arith}
 use lib.ListN.{length, get_or, drop, length-append}
 use lib.Seq.{drop-drop, drop-append_seam, get_or-drop}
+use Rattle.laws.specs.Tests.{cond_both}
 use Rattle.grammar.specs.Expr.{Expr, Exprs, cite, Then, join, none, more, citations, citations_of, count, concat}
 use Rattle.grammar.proofs.Bounds.{concat_append}
 use Rattle.grammar.specs.Lex.{blank_char}
 use Rattle.grammar.specs.Reading.{citation_limit, Fits}
 use Rattle.grammar.specs.Bytes.{two_bytes, field, cites, texts_in}
 use Rattle.grammar.specs.Pack.{got}
-use Rattle.semantics.specs.Rules.{is_false}
-use Rattle.semantics.specs.Truth.{Counts, truth_with}
-use Rattle.semantics.specs.Violations.{violated, violated_of, violations_with, number_bytes}
-use Rattle.semantics.proofs.Sizes.{violated_few}
+use Rattle.semantics.specs.Truth.{Counts}
+use Rattle.semantics.specs.Violations.{fails, violations_with, violations_of, number_bytes}
+use Rattle.semantics.proofs.Sizes.{violations_fit}
 use Rattle.fields.specs.Appended.{Appended}
 use Rattle.fields.proofs.Appends.{both, same}
 use Rattle.tree.specs.Walk.{text_at}
@@ -55,35 +55,43 @@ text_here : (texts : List (List ℕ)) (n : ℕ) (t : List ℕ) (rest : List (Lis
 text_here texts n t rest h = sym (rw add-zero at (get_or-drop n texts 0 [])) ∙ rw h
 
 module _ (counts : Counts) where
+  -- numbers that stand only after a test
+  below_if : (m : ℕ) (b : Bool) (ns : List ℕ) → AllBelow m ns → AllBelow m (cond b ns [])
+  below_if m b ns h = cond_both (AllBelow m) b ns [] (λ _. h) (λ _. tt)
+
   mutual
-    unfolding violated citations
+    unfolding violations_with citations
 
-    violated_below : (m n : ℕ) (e : Expr) → n + count e ≤ m → AllBelow m (violated counts n e)
-    violated_below m n (cite t) h = one_below m n (is_false (counts n t)) (omega arith)
-    violated_below m n (Then es) h = violated_belows m n es h
-    violated_below m n (join o es) h = violated_belows m n es h
+    violations_below : (m n : ℕ) (e : Expr) → n + count e ≤ m → AllBelow m (violations_with counts n e)
+    violations_below m n (cite t) h = one_below m n (fails counts n (cite t)) (omega arith)
+    violations_below m n (Then es) h = below_if m (fails counts n (Then es)) (violations_of counts n es) (violations_belows m n es h)
+    violations_below m n (join o es) h = below_if m (fails counts n (join o es)) (violations_of counts n es) (violations_belows m n es h)
 
-    violated_belows : (m n : ℕ) (es : Exprs) → n + length (citations_of es) ≤ m → AllBelow m (violated_of counts n es)
-    violated_belows m n none h = tt
-    violated_belows m n (more e es) h =
+    violations_belows : (m n : ℕ) (es : Exprs) → n + length (citations_of es) ≤ m → AllBelow m (violations_of counts n es)
+    violations_belows m n none h = tt
+    violations_belows m n (more e es) h =
         let l = length-append (citations e) (citations_of es) in
-        all_append m (violated counts n e) (violated_of counts (n + count e) es) (violated_below m n e (omega (arith, l))) (violated_belows m (n + count e) es (omega (arith, l)))
+        all_append m (violations_with counts n e) (violations_of counts (n + count e) es)
+        (violations_below m n e (omega (arith, l))) (violations_belows m (n + count e) es (omega (arith, l)))
 
   module _ (texts : List (List ℕ)) where
-    named_none : length (named texts []) ≤ 0
+    named_none : (most : ℕ) → length (named texts []) ≤ most
     unfolding named
-    named_none = omega arith
+    named_none most = omega arith
+
+    named_if : (b : Bool) (ns : List ℕ) (most : ℕ) → length (named texts ns) ≤ most → length (named texts (cond b ns [])) ≤ most
+    named_if b ns most h = cond_both (λ (l : List ℕ). length (named texts l) ≤ most) b ns [] (λ _. h) (λ _. named_none most)
 
     mutual
-      unfolding violated citations concat
+      unfolding violations_with citations concat
 
-      named_size : (n : ℕ) (e : Expr) (rest : List (List ℕ)) → drop n texts ≡ citations e ++ rest → length (named texts (violated counts n e)) ≤ length (concat (citations e)) + count e
-      named_size n (cite t) rest h = omega (arith, one_size texts n t (is_false (counts n t)) (text_here texts n t rest h), length-append t [])
-      named_size n (Then es) rest h = named_sizes n es rest h
-      named_size n (join o es) rest h = named_sizes n es rest h
+      named_size : (n : ℕ) (e : Expr) (rest : List (List ℕ)) → drop n texts ≡ citations e ++ rest → length (named texts (violations_with counts n e)) ≤ length (concat (citations e)) + count e
+      named_size n (cite t) rest h = omega (arith, one_size texts n t (fails counts n (cite t)) (text_here texts n t rest h), length-append t [])
+      named_size n (Then es) rest h = named_if (fails counts n (Then es)) (violations_of counts n es) _ (named_sizes n es rest h)
+      named_size n (join o es) rest h = named_if (fails counts n (join o es)) (violations_of counts n es) _ (named_sizes n es rest h)
 
-      named_sizes : (n : ℕ) (es : Exprs) (rest : List (List ℕ)) → drop n texts ≡ citations_of es ++ rest → length (named texts (violated_of counts n es)) ≤ length (concat (citations_of es)) + length (citations_of es)
-      named_sizes n none rest h = named_none
+      named_sizes : (n : ℕ) (es : Exprs) (rest : List (List ℕ)) → drop n texts ≡ citations_of es ++ rest → length (named texts (violations_of counts n es)) ≤ length (concat (citations_of es)) + length (citations_of es)
+      named_sizes n none rest h = named_none _
       named_sizes n (more e es) rest h =
           let first = h ∙ append_assoc (citations e) (citations_of es) rest in
           let later = sym (drop-drop (count e) n texts) ∙ ap (drop (count e)) first ∙ drop-append_seam (citations e) (citations_of es ++ rest) in
@@ -94,37 +102,22 @@ module _ (counts : Counts) where
             length-append (citations e) (citations_of es),
             ap length (concat_append (citations e) (citations_of es)),
             length-append (concat (citations e)) (concat (citations_of es)),
-            ap length (named_append texts (violated counts n e) (violated_of counts (n + count e) es)),
-            length-append (named texts (violated counts n e)) (named texts (violated_of counts (n + count e) es)),
+            ap length (named_append texts (violations_with counts n e) (violations_of counts (n + count e) es)),
+            length-append (named texts (violations_with counts n e)) (named texts (violations_of counts (n + count e) es)),
           )
 
-  -- what holds of the numbers of violated citations
+  -- what holds of the violations
   pub record Listed (e : Expr) (ns : List ℕ) : Type 0 where
     pub few : length ns ≤ citation_limit
     pub below : AllBelow (count e) ns
     pub small : length (named (citations e) ns) ≤ longest_named
 
-  some_listed : (e : Expr) → Fits e → Listed e (violated counts 0 e)
-  some_listed e f = record {
-    few = omega (arith, violated_few counts 0 e, f.few);
-    below = violated_below (count e) 0 e (omega arith);
+  pub listed : (e : Expr) → Fits e → Listed e (violations_with counts 0 e)
+  listed e f = record {
+    few = violations_fit counts e f;
+    below = violations_below (count e) 0 e (omega arith);
     small = omega (arith, named_size (citations e) 0 e [] (sym (append-nil (citations e))), f.few, f.small);
   }
-
-  none_listed : (e : Expr) → Listed e []
-  none_listed e = record { few = omega arith; below = tt; small = omega (arith, named_none (citations e)) }
-
-  violations_by : (e : Expr) (t : Bool) → is_false (truth_with counts 0 e) ≡ t → violations_with counts e ≡ cond t (violated counts 0 e) []
-  unfolding violations_with
-  violations_by e t h = rw h
-
-  -- it holds of the violations
-  pub listed : (e : Expr) → Fits e → Listed e (violations_with counts e)
-  listed e f = by (is_false (truth_with counts 0 e)) refl
-    where
-      by : (t : Bool) → is_false (truth_with counts 0 e) ≡ t → Listed e (violations_with counts e)
-      by true h = subst (Listed e) (sym (violations_by e true h)) (some_listed e f)
-      by false h = subst (Listed e) (sym (violations_by e false h)) (none_listed e)
 
 numbers_first : (list : List ℕ) (left from : ℕ) → 0 < left → numbers_from list left from ≡ field list from ∷ numbers_from list (left - 1) (from + 2)
 unfolding numbers_from

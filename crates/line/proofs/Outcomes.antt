@@ -94,7 +94,7 @@ module _ (b : List ℕ) (tree : is_tree b ≡ true) where
       unfolding violations_answer then
       violations_is = rw (root b tree).is (fits value_limit value _ a)
 
-      -- the numbers of the violated citations
+      -- the numbers of the violations
       pub violations_listed : (o : Result ℕ Refusal) → longest_list ≤ length old → o ≡ answer_of (violations_answer b value) (length old) → new ≡ written_of (violations_answer b value) old
           → (o ≡ Ok (length (violations value e))) × ((n : ℕ) → n ≡ length (violations value e) → (n ≤ citation_limit) × (numbers_from new n 0 ≡ violations value e))
       violations_listed o room f g =

@@ -76,7 +76,7 @@ five_lines k tree presence pakete format =
 abbrev pub alone_lines : StatusKind → List ℕ
 alone_lines k = let dash = bytes "-" in five_lines k dash dash dash dash
 
--- a format truth, and the texts of the violated citations
+-- a format truth, and the texts of the violations
 abbrev pub format_said : (value : List ℕ) → Truth → Expr → List ℕ
 format_said value format e = truth_name format ++ named (citations e) (violations value e)
 

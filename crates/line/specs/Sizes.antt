@@ -25,7 +25,7 @@ longest_rows = paket_size * citation_limit
 abbrev pub longest_list : ℕ
 longest_list = 2 * citation_limit
 
--- the longest texts of violated citations, with a space before each
+-- the longest texts of violations, with a space before each
 abbrev pub longest_named : ℕ
 longest_named = citation_limit + cited_limit
 
@@ -49,7 +49,7 @@ longest_presence_line = line_size 8 longest_truth
 abbrev pub longest_pakete_line : ℕ
 longest_pakete_line = line_size 6 longest_number
 
--- `format`, a truth and the texts of violated citations
+-- `format`, a truth and the texts of violations
 abbrev pub longest_format_line : ℕ
 longest_format_line = line_size 6 (longest_truth + longest_named)
 

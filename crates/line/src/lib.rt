@@ -10,7 +10,7 @@ ghost use Rattle.grammar.specs.Print.{printed};
 ghost use Rattle.grammar.specs.Reading.{citation_limit, print_limit};
 ghost use Rattle.grammar.specs.Bytes.{cites, texts_in, tree_at, tree_limit};
 ghost use Rattle.grammar.specs.Outcome.{answer_of, written_of};
-ghost use Rattle.semantics.specs.Violations as violated;
+ghost use Rattle.semantics.specs.Violations as lists;
 ghost use Rattle.semantics.specs.Packages as packages;
 ghost use Rattle.fields.specs.Appended.{Appended};
 ghost use Rattle.tree.specs.Walk.{text_at};
@@ -200,10 +200,10 @@ struct Value<'a> {
     ghost admitted: { Admitted bytes.now },
 }
 
-// The numbers of the violated citations, at the start of a scratch.
+// The numbers of the violations, at the start of a scratch.
 fn list_violations(tree: Tree, value: Value, scratch: &mut [u8]) -> usize
     requires { longest_list ≤ length scratch.old }
-    ensures { (result ≤ citation_limit) × (numbers_from scratch.new result 0 ≡ violated.violations value.entry.bytes.now (tree_at tree.entry.bytes.now 0)) }
+    ensures { (result ≤ citation_limit) × (numbers_from scratch.new result 0 ≡ lists.violations value.entry.bytes.now (tree_at tree.entry.bytes.now 0)) }
 {
     violations(tree.bytes, value.bytes, scratch).unwrap_or(0)
 }

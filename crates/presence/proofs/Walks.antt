@@ -6,7 +6,7 @@ use mathlib.Core.Bool.{Bool, true, false, ◌&&◌, ◌||◌, or-false, or-true,
 use Prim.Native.Nat.{ℕ, zero, suc, ◌+◌, ◌-◌, ◌≤◌, ◌<◌}
 use native.Mathlib.Omega.{arith}
 use lib.Dec.{eqb}
-use lib.ListN.{length, get_or}
+use lib.ListN.{get_or}
 use borrow.Author.Tests.{eqb-true, eqb-false}
 use Rattle.refusal.specs.declared.Refusal.{Refusal}
 use Rattle.refusal.specs.declared.Refusal.TheVariants.{ChoiceOverNeutral}
@@ -15,13 +15,12 @@ use Rattle.citation.specs.Kinds.{kind_of}
 use Rattle.grammar.specs.Expr as expr
 use Rattle.grammar.specs.Expr.{Expr, Exprs, cite, join, none, ◌◂◌, citations, citations_of, count}
 use Rattle.grammar.specs.Rows.{span, firsts, children}
-use Rattle.grammar.specs.Bytes.{nodes, cites, is_tree, forest_at, tree_at}
+use Rattle.grammar.specs.Bytes.{nodes, is_tree, forest_at, tree_at}
 use Rattle.grammar.specs.Kinds.{node_kind}
 use Rattle.grammar.specs.declared.NodeKind.{NodeKind}
 use Rattle.grammar.specs.declared.NodeKind.TheVariants.{Citation}
 use Rattle.tree.specs.Walk.{number_at, first_at, text_at}
-use Rattle.tree.proofs.Spots.{spot}
-use Rattle.tree.proofs.Walks.{Walk, leaf, children-at, first_below, walk_begins, walk_next}
+use Rattle.tree.proofs.Walks.{Walk, leaf, children-at, first_below, walk_begins, walk_next, firsts_end, first_next}
 use Rattle.semantics.specs.Presence.{some_gate_with, some_free_with, presence_with, dropped, some_gate, some_free, mixes, presence, values, oracle_of}
 use Rattle.presence.specs.declared.Mark.{Mark}
 use Rattle.presence.specs.declared.Mark.TheVariants.{Dropped}
@@ -37,23 +36,7 @@ cites-inner (cite t) h = absurd (h refl)
 cites-inner (expr.Then es) h = refl
 cites-inner (join o es) h = refl
 
-first_of : (b : List ℕ) (i : ℕ) (es : Exprs) → forest_at b i ≡ es → first_at b i ≡ cites b - length (citations_of es)
-unfolding first_at
-first_of b i es h = rw h
-
-firsts_end : (left : ℕ) (es : Exprs) → left ≤ 0 → firsts left es ≡ none
-unfolding firsts
-firsts_end zero es h = refl
-firsts_end (suc left) es h = absurd (omega arith)
-
 module _ (b : List ℕ) (tree : is_tree b ≡ true) where
-  -- the next operand's first citation
-  first_next : (i : ℕ) → i < nodes b → first_at b i + count (tree_at b i) ≡ first_at b (i + span (tree_at b i))
-  first_next i l =
-      let s = spot b tree i l in
-      let on : forest_at b (i + span (tree_at b i)) ≡ s.st = ap (λ x. forest_at b (i + span x)) s.tree ∙ s.after in
-      omega (arith, first_of b (i + span (tree_at b i)) s.st on, s.first, s.total, ap count s.tree)
-
   -- the mark of a citation's row
   pub mark_leaf : (row : ℕ) → row < nodes b → node_kind (tree_at b row) ≡ Citation → (n : ℕ) → n ≡ number_at b row → mark_of_kind (kind_of (text_at b n)) ≡ mark_of (citations (tree_at b row))
   unfolding citations

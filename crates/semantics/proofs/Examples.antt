@@ -25,7 +25,7 @@ use Rattle.grammar.specs.Quoted.{bytes}
 use Rattle.semantics.specs.Rules.{any, every, and_rule, or_rule, two_true, xor_rule}
 use Rattle.semantics.specs.Presence.{some_gate_with, some_free_with, before, presence_with, answered, answers_fit}
 use Rattle.semantics.specs.Truth.{Counts, cited_truth, truth_with, truth}
-use Rattle.semantics.specs.Violations.{violated, violations_with, violations, number_bytes}
+use Rattle.semantics.specs.Violations.{violations_with, violations, number_bytes}
 use Rattle.semantics.specs.Packages.{bytes_up_to, paket_bytes, rows_of, pakete}
 use Rattle.grammar.specs.Outcome.{answer_of, written_of}
 use Rattle.semantics.specs.Answers.{eval_answer, violations_answer, eval_and_truth_answer}
@@ -96,7 +96,7 @@ sample = join And (Then (or2 "902" "903" ◂ c "1" ◂ none) ◂ c "914" ◂ non
 -- an expression, a value, its format truth and the numbers of the violations
 abbrev judgements : List (Expr × List ℕ × Truth × List ℕ)
 judgements =
-    (sample, bytes "0", False, 1 ∷ 3 ∷ [])
+    (sample, bytes "0", False, 3 ∷ [])
     ∷ (sample, bytes "2", True, [])
     ∷ (c "951", bytes "0", Unknown, [])
     ∷ (c "0902", bytes "-1", Unknown, [])
@@ -109,6 +109,13 @@ judgements =
     ∷ (or2 "902" "951", bytes "-1", Unknown, [])
     ∷ (xor3 "902" "909" "1", bytes "1", True, [])
     ∷ (and2 "902" "902", bytes "-1", False, 0 ∷ 1 ∷ [])
+    ∷ (or2 "902" "903", bytes "-1", False, 0 ∷ 1 ∷ [])
+    ∷ (join And (or2 "902" "951" ◂ c "914" ◂ none), bytes "-1", False, 2 ∷ [])
+    ∷ (join And (xor3 "902" "903" "909" ◂ c "903" ◂ none), bytes "0", False, 3 ∷ [])
+    ∷ (join And (join Or (and2 "902" "903" ◂ c "914" ◂ none) ◂ c "926" ◂ none), bytes "5", False, 3 ∷ [])
+    ∷ (join And (join Or (c "903" ◂ and2 "902" "914" ◂ none) ◂ c "909" ◂ none), bytes "0", False, 0 ∷ 2 ∷ [])
+    ∷ (join Or (join And (or2 "902" "903" ◂ c "914" ◂ none) ◂ c "903" ◂ none), bytes "0", False, 2 ∷ 3 ∷ [])
+    ∷ (join Or (and2 "902" "903" ◂ c "1" ◂ none), bytes "0", True, [])
     ∷ []
 
 abbrev judgements_said : List (Expr × List ℕ × Truth × List ℕ) → List (Truth × List ℕ)
@@ -120,7 +127,7 @@ judgements_wanted [] = []
 judgements_wanted (x ∷ xs) = (x.2, x.3) ∷ judgements_wanted xs
 
 judgements_hold : judgements_said judgements ≡ judgements_wanted judgements
-unfolding truth_with cited_truth violations_with violated and_rule or_rule any citations kind_of kind_of_number number_up_to verdict rule_of judged against integer_of fraction_of encode_char
+unfolding truth_with cited_truth violations_with and_rule or_rule any citations kind_of kind_of_number number_up_to verdict rule_of judged against integer_of fraction_of encode_char
 judgements_hold = refl
 
 -- a truth for each citation by its number alone: only the number 2 counts as False
@@ -129,16 +136,16 @@ second_false n t = truth_of (not (eqb n 2))
 
 -- the numbers go on from operand to operand, also where the texts are equal
 numbers_go_on : (truth_with second_false 0 (and2 "1" "1") ≡ True) × (truth_with second_false 0 (join And (and2 "1" "1" ◂ c "1" ◂ none)) ≡ False)
-    × (truth_with second_false 1 (and2 "1" "1") ≡ False) × (violations_with second_false (Then (or2 "1" "1" ◂ c "1" ◂ none)) ≡ 2 ∷ [])
-unfolding truth_with violations_with violated and_rule or_rule any citations
+    × (truth_with second_false 1 (and2 "1" "1") ≡ False) × (violations_with second_false 0 (Then (or2 "1" "1" ◂ c "1" ◂ none)) ≡ 2 ∷ [])
+unfolding truth_with violations_with and_rule or_rule any citations
 numbers_go_on = (refl, refl, refl, refl)
 
 -- the violations into a buffer: their count, two bytes each, and the old rest; 14 and the old bytes where it is too short
-sample_written : (answer_of (violations_answer (bytes_of sample) (bytes "0")) 5 ≡ Ok 2)
-    × (written_of (violations_answer (bytes_of sample) (bytes "0")) (replicate 5 9) ≡ 1 ∷ 0 ∷ 3 ∷ 0 ∷ 9 ∷ [])
-    × (answer_of (violations_answer (bytes_of sample) (bytes "0")) 3 ≡ Err NoRoom)
-    × (written_of (violations_answer (bytes_of sample) (bytes "0")) (replicate 3 9) ≡ replicate 3 9)
-unfolding answer_of written_of violations_answer then admitted tree_of is_tree head_ok tiles size_of rows_from cited_from rows_ok row_ok cites_ok citable is_utf8 decode lead_of blank holds is_white tree_at forest_at first build place made firsts rests encode_char bytes_of packed head_bytes row_bytes cite_bytes two_bytes rows node op_kind many citations concat number_bytes truth_with cited_truth violations_with violated and_rule or_rule any kind_of kind_of_number number_up_to verdict rule_of judged against integer_of fraction_of
+sample_written : (answer_of (violations_answer (bytes_of sample) (bytes "0")) 3 ≡ Ok 1)
+    × (written_of (violations_answer (bytes_of sample) (bytes "0")) (replicate 3 9) ≡ 3 ∷ 0 ∷ 9 ∷ [])
+    × (answer_of (violations_answer (bytes_of sample) (bytes "0")) 1 ≡ Err NoRoom)
+    × (written_of (violations_answer (bytes_of sample) (bytes "0")) (replicate 1 9) ≡ replicate 1 9)
+unfolding answer_of written_of violations_answer then admitted tree_of is_tree head_ok tiles size_of rows_from cited_from rows_ok row_ok cites_ok citable is_utf8 decode lead_of blank holds is_white tree_at forest_at first build place made firsts rests encode_char bytes_of packed head_bytes row_bytes cite_bytes two_bytes rows node op_kind many citations concat number_bytes truth_with cited_truth violations_with and_rule or_rule any kind_of kind_of_number number_up_to verdict rule_of judged against integer_of fraction_of
 sample_written = (refl, refl, refl, refl)
 
 -- an expression, answer bytes, a value, and what `eval_and_truth` says: 16 before the value's 10 and 11, and these before 7 and 8

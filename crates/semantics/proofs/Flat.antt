@@ -1,9 +1,10 @@
 -- A tree and its flat tree say the same. Assumes nothing.
-use Rattle.std.specs.Prelude.{◌≡◌, Bool, true, ℕ, ◌+◌, length, Result, Ok, Err}
+use Rattle.std.specs.Prelude.{◌≡◌, Bool, true, cond, ℕ, ◌+◌, length, Result, Ok, Err}
 use Rattle.std.proofs.Math.Path.{refl}
 use Rattle.std.proofs.Common.{sym, ◌∙◌}
-use mathlib.Core.List.{List, ◌++◌, append_assoc, append-nil}
+use mathlib.Core.List.{List, [], ◌++◌, append_assoc, append-nil}
 use Rattle.std.proofs.Math.Bool.{false}
+use Rattle.std.proofs.lemmas.Bool.{or_parts}
 use Rattle.std.proofs.Math.Nat.{add_assoc, add-zero}
 use Rattle.std.proofs.Math.ListN.{length-append}
 use Rattle.refusal.specs.declared.Refusal.{Refusal}
@@ -13,12 +14,12 @@ use Rattle.citation.specs.declared.Truth.TheVariants.{Neutral}
 use Rattle.grammar.specs.Expr.{And, Or, Xor, Expr, Exprs, cite, Then, join, none, more, ◌◂◌, ◌⧺◌, citations, citations_of, count}
 use Rattle.grammar.specs.Flat.{operands, flat, flats, spliced}
 use Rattle.grammar.proofs.Flat.{citations_flat}
-use Rattle.semantics.specs.Rules.{any, and_rule}
+use Rattle.semantics.specs.Rules.{is_false, any, and_rule}
 use Rattle.semantics.specs.Presence.{some_gate_with, some_free_with, some_gate, some_free, before, presence_with, values_with, presence, values, answers_fit}
 use Rattle.semantics.specs.Truth.{Counts, format_rule, truth_with, truths_with}
-use Rattle.semantics.specs.Violations.{violated, violated_of, violations_with}
+use Rattle.semantics.specs.Violations.{fails, violations_with, violations_of}
 use Rattle.semantics.specs.Pairs.{pair}
-use Rattle.semantics.proofs.Pairs.{rule_none, rule_more, and_assoc, and_neutral, neutral_and}
+use Rattle.semantics.proofs.Pairs.{rule_none, rule_more, and_false, and_assoc, and_neutral, neutral_and}
 use Rattle.semantics.specs.Packages.{pakete}
 
 -- Then and And of two answers: the first refusal met, else the truths joined. What a Then inside a Then says counts as what its operands say, since this is associative
@@ -167,41 +168,60 @@ module _ (counts : Counts) where
     truths_flats n none = refl
     truths_flats n (more e es) = rw (citations_flat e, truth_flat n e, truths_flats (n + count e) es)
 
-  violated_append : (n : ℕ) (a b : Exprs) → violated_of counts n (a ⧺ b) ≡ violated_of counts n a ++ violated_of counts (n + length (citations_of a)) b
-  unfolding violated_of citations_of ◌⧺◌
-  violated_append n none b = rw add-zero
-  violated_append n (more e a) b =
-      rw (violated_append (n + count e) a b, length-append (citations e) (citations_of a), ← add_assoc n (count e) (length (citations_of a)))
-      (sym (append_assoc (violated counts n e) (violated_of counts (n + count e) a) _))
+  -- what is not False has no violations
+  pub not_false_none : (n : ℕ) (e : Expr) → fails counts n e ≡ false → violations_with counts n e ≡ []
+  unfolding violations_with
+  not_false_none n (cite t) h = rw h
+  not_false_none n (Then es) h = rw h
+  not_false_none n (join o es) h = rw h
 
-  violated_operands : (n : ℕ) (e : Expr) → violated_of counts n (operands e) ≡ violated counts n e
-  unfolding violated operands
-  violated_operands n (cite t) = append-nil (violated counts n (cite t))
-  violated_operands n (Then es) = refl
-  violated_operands n (join o es) = append-nil (violated counts n (join o es))
+  none_false : (n : ℕ) (es : Exprs) → any is_false (truths_with counts n es) ≡ false → violations_of counts n es ≡ []
+  unfolding violations_of truths_with any
+  none_false n none h = refl
+  none_false n (more e es) h =
+      let s = or_parts (fails counts n e) (any is_false (truths_with counts (n + count e) es)) h in
+      rw (not_false_none n e s.0) (none_false (n + count e) es s.1)
+
+  -- a Then that is not False has no operand that is, so its violations are those of its operands
+  then_violations : (n : ℕ) (es : Exprs) → violations_with counts n (Then es) ≡ violations_of counts n es
+  unfolding violations_with truth_with
+  then_violations n es = by (is_false (format_rule And (truths_with counts n es))) refl
+    where
+      by : (x : Bool) → is_false (format_rule And (truths_with counts n es)) ≡ x → cond x (violations_of counts n es) [] ≡ violations_of counts n es
+      by true h = refl
+      by false h = sym (none_false n es (sym (and_false (truths_with counts n es)) ∙ h))
+
+  violations_append : (n : ℕ) (a b : Exprs) → violations_of counts n (a ⧺ b) ≡ violations_of counts n a ++ violations_of counts (n + length (citations_of a)) b
+  unfolding violations_of citations_of ◌⧺◌
+  violations_append n none b = rw add-zero
+  violations_append n (more e a) b =
+      rw (violations_append (n + count e) a b, length-append (citations e) (citations_of a), ← add_assoc n (count e) (length (citations_of a)))
+      (sym (append_assoc (violations_with counts n e) (violations_of counts (n + count e) a) _))
+
+  violations_operands : (n : ℕ) (e : Expr) → violations_of counts n (operands e) ≡ violations_with counts n e
+  unfolding violations_with operands
+  violations_operands n (cite t) = append-nil (violations_with counts n (cite t))
+  violations_operands n (Then es) = sym (then_violations n es)
+  violations_operands n (join o es) = append-nil (violations_with counts n (join o es))
 
   mutual
-    unfolding violated flat
+    unfolding violations_with truth_with flat
 
-    violated_flat : (n : ℕ) (e : Expr) → violated counts n (flat e) ≡ violated counts n e
-    violated_flat n (cite t) = refl
-    violated_flat n (Then es) = violated_spliced n es
-    violated_flat n (join o es) = violated_flats n es
+    -- nor do the violations
+    pub violations_flat : (n : ℕ) (e : Expr) → violations_with counts n (flat e) ≡ violations_with counts n e
+    violations_flat n (cite t) = refl
+    violations_flat n (Then es) = then_violations n (spliced es) ∙ violations_spliced n es ∙ sym (then_violations n es)
+    violations_flat n (join o es) = rw (truths_flats n es, violations_flats n es)
 
-    violated_spliced : (n : ℕ) (es : Exprs) → violated_of counts n (spliced es) ≡ violated_of counts n es
-    violated_spliced n none = refl
-    violated_spliced n (more e es) =
-        violated_append n (operands (flat e)) (spliced es)
-        ∙ rw (violated_operands n (flat e), count-operands (flat e), citations_flat e, violated_flat n e, violated_spliced (n + count e) es)
+    violations_spliced : (n : ℕ) (es : Exprs) → violations_of counts n (spliced es) ≡ violations_of counts n es
+    violations_spliced n none = refl
+    violations_spliced n (more e es) =
+        violations_append n (operands (flat e)) (spliced es)
+        ∙ rw (violations_operands n (flat e), count-operands (flat e), citations_flat e, violations_flat n e, violations_spliced (n + count e) es)
 
-    violated_flats : (n : ℕ) (es : Exprs) → violated_of counts n (flats es) ≡ violated_of counts n es
-    violated_flats n none = refl
-    violated_flats n (more e es) = rw (citations_flat e, violated_flat n e, violated_flats (n + count e) es)
-
-  -- nor do the violations
-  pub violations_flat : (e : Expr) → violations_with counts (flat e) ≡ violations_with counts e
-  unfolding violations_with
-  violations_flat e = rw (truth_flat 0 e, violated_flat 0 e)
+    violations_flats : (n : ℕ) (es : Exprs) → violations_of counts n (flats es) ≡ violations_of counts n es
+    violations_flats n none = refl
+    violations_flats n (more e es) = rw (citations_flat e, violations_flat n e, violations_flats (n + count e) es)
 
 -- the package rows do not see flattening
 pub pakete_flat : (e : Expr) → pakete (flat e) ≡ pakete e

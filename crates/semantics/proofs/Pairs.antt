@@ -48,6 +48,17 @@ rule_none And = refl
 rule_none Or = refl
 rule_none Xor = refl
 
+-- a Then or an And is False exactly if an operand is
+pub and_false : (vs : List Truth) → is_false (and_rule vs) ≡ any is_false vs
+unfolding and_rule
+and_false vs = by (any is_false vs) (any is_unknown vs) (any is_true vs)
+  where
+    by : (f u t : Bool) → is_false (cond f False (cond u Unknown (cond t True Neutral))) ≡ f
+    by true u t = refl
+    by false true t = refl
+    by false false true = refl
+    by false false false = refl
+
 -- what holds of each truth holds of this one
 pub at : (p : Truth → Bool) → each p ≡ true → (v : Truth) → p v ≡ true
 at p h v =

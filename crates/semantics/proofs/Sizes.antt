@@ -1,15 +1,16 @@
 -- How many violations and package rows there are, and how many bytes they take. Assumes nothing.
 use Rattle.std.specs.Prelude.{◌≡◌, refl, List, [], ◌∷◌, Bool, true, false, cond, ℕ, suc, ◌+◌, ◌*◌, ◌≤◌, length, Result, Ok, Err}
 use Rattle.std.proofs.Common.{ap, ◌∙◌, arith, length-append}
+use Rattle.laws.specs.Tests.{cond_both}
 use Rattle.citation.specs.Kinds.{kind_of}
 use Rattle.citation.specs.declared.Paket.{Paket}
 use Rattle.citation.specs.Pakete.{paket_of}
 use Rattle.grammar.specs.Expr.{Expr, Exprs, cite, Then, join, none, more, citations, citations_of, count, concat}
+use Rattle.grammar.specs.Reading.{citation_limit, Fits}
 use Rattle.grammar.specs.Bytes.{two_bytes}
 use Rattle.grammar.proofs.Bounds.{concat_append}
-use Rattle.semantics.specs.Rules.{is_false}
 use Rattle.semantics.specs.Truth.{Counts}
-use Rattle.semantics.specs.Violations.{violated, violated_of, number_bytes}
+use Rattle.semantics.specs.Violations.{fails, violations_with, violations_of, number_bytes}
 use Rattle.semantics.specs.Packages.{is_paket, paket_size, bytes_up_to, paket_bytes, read_row, row_of, rows_of}
 use Rattle.refusal.specs.declared.Refusal.{Refusal}
 
@@ -20,23 +21,32 @@ numbers_length [] = refl
 numbers_length (n ∷ ns) = omega (arith, numbers_length ns)
 
 module _ (counts : Counts) where
-  one_at_most : (b : Bool) (n : ℕ) → length (cond b (n ∷ []) []) ≤ 1
-  one_at_most true n = omega arith
-  one_at_most false n = omega arith
+  few_if : (b : Bool) (ns : List ℕ) (most : ℕ) → length ns ≤ most → length (cond b ns []) ≤ most
+  few_if b ns most h = cond_both (λ (l : List ℕ). length l ≤ most) b ns [] (λ _. h) (λ _. omega arith)
 
   mutual
-    unfolding violated citations
+    unfolding violations_with citations
 
     -- no more than there are citations
-    pub violated_few : (n : ℕ) (e : Expr) → length (violated counts n e) ≤ count e
-    violated_few n (cite t) = one_at_most (is_false (counts n t)) n
-    violated_few n (Then es) = violated_few_of n es
-    violated_few n (join o es) = violated_few_of n es
+    pub violations_few : (n : ℕ) (e : Expr) → length (violations_with counts n e) ≤ count e
+    violations_few n (cite t) = few_if (fails counts n (cite t)) (n ∷ []) 1 (omega arith)
+    violations_few n (Then es) = few_if (fails counts n (Then es)) (violations_of counts n es) _ (violations_few_of n es)
+    violations_few n (join o es) = few_if (fails counts n (join o es)) (violations_of counts n es) _ (violations_few_of n es)
 
-    violated_few_of : (n : ℕ) (es : Exprs) → length (violated_of counts n es) ≤ length (citations_of es)
-    violated_few_of n none = omega arith
-    violated_few_of n (more e es) =
-        omega (arith, violated_few n e, violated_few_of (n + count e) es, length-append (citations e) (citations_of es), length-append (violated counts n e) (violated_of counts (n + count e) es))
+    violations_few_of : (n : ℕ) (es : Exprs) → length (violations_of counts n es) ≤ length (citations_of es)
+    violations_few_of n none = omega arith
+    violations_few_of n (more e es) =
+        omega (
+          arith,
+          violations_few n e,
+          violations_few_of (n + count e) es,
+          length-append (citations e) (citations_of es),
+          length-append (violations_with counts n e) (violations_of counts (n + count e) es),
+        )
+
+  -- and none too many for a tree
+  pub violations_fit : (e : Expr) → Fits e → length (violations_with counts 0 e) ≤ citation_limit
+  violations_fit e f = omega (arith, violations_few 0 e, f.few)
 
 -- a package row has its size
 pub row-length : (n : ℕ) (p : Paket) → length (paket_bytes n p) ≡ paket_size

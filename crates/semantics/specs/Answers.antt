@@ -29,9 +29,13 @@ truth_answer tree value = then (tree_of tree) (λ e. admitted value_limit value 
 abbrev pub numbered : List ℕ → Written ℕ
 numbered ns = record { answer = length ns; bytes = number_bytes ns }
 
+-- the violations of an expression
+abbrev pub list_outcome : (value : List ℕ) → Expr → Outcome ℕ
+list_outcome value e = Ok (numbered (violations value e))
+
 -- `violations`: 15, then the value's 10 and 11
 unfoldable pub violations_answer : (tree value : List ℕ) → Outcome ℕ
-violations_answer tree value = then (tree_of tree) (λ e. admitted value_limit value (Ok (numbered (violations value e))))
+violations_answer tree value = then (tree_of tree) (λ e. admitted value_limit value (list_outcome value e))
 
 -- `eval_and_truth`: 15, 16, the value's 10 and 11, then 7 and 8 as met
 unfoldable pub eval_and_truth_answer : (tree answers value : List ℕ) → Result (Truth × Truth) Refusal

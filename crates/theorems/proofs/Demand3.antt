@@ -167,7 +167,7 @@ module _ (e : Expr) (f : Fits e) where
 
   violations_flat : (value : List ℕ) → violations_answer (bytes_of (flat e)) value ≡ violations_answer (bytes_of e) value
   unfolding violations_answer then
-  violations_flat value = rw (flat_is, tree_is, flats.violations_flat (counts_on value) e)
+  violations_flat value = rw (flat_is, tree_is, flats.violations_flat (counts_on value) 0 e)
 
   both_flat : (answers value : List ℕ) → eval_and_truth_answer (bytes_of (flat e)) answers value ≡ eval_and_truth_answer (bytes_of e) answers value
   unfolding eval_and_truth_answer then

@@ -1,6 +1,6 @@
 -- What moving the first Format number from 900 to 901 changed, for every tree, read or not. Presence, its refusals, the package rows and the
--- violations are the same; a format truth is the same, or was Unknown and is True. Assumes nothing.
-use Rattle.std.specs.Prelude.{◌≡◌, List, [], ◌∷◌, ◌++◌, Bool, false, cond, not, ◌&&◌, ◌||◌, ◌⊎◌, ℕ, suc, ◌+◌, eqb, leb, length, Result, Ok, Err, Option, Some, None}
+-- violations are the same; a format truth is the same, or was Unknown and is True. 'Before' is the range from 900, all else being as it is now. Assumes nothing.
+use Rattle.std.specs.Prelude.{◌≡◌, List, [], ◌∷◌, ◌++◌, Bool, false, cond, not, ◌&&◌, ◌||◌, ◌⊎◌, ℕ, suc, ◌+◌, eqb, leb, length, get_or, Result, Ok, Err, Option, Some, None}
 use Rattle.std.proofs.Math.Path.{refl, ap, ap₂, fun_ext}
 use Rattle.std.proofs.Common.{sym, ◌∙◌, inr, arith, eqb-true, leb-true, leb-false, le-leb}
 use Rattle.std.proofs.Math.Bool.{true}
@@ -26,18 +26,18 @@ use Rattle.citation.specs.declared.Truth.TheVariants.{Unknown, True}
 use Rattle.formats.specs.declared.FormatVerdict.TheVariants.{Unregistered}
 use Rattle.formats.specs.Table.{Rows, rules, rule_of, verdict}
 use Rattle.formats.specs.Answers.{verdict_truth}
-use Rattle.grammar.specs.Expr.{Expr, Exprs, cite, Then, join, none, more, citations, count}
+use Rattle.grammar.specs.Expr.{Expr, Exprs, cite, citations}
 use Rattle.grammar.specs.Bytes.{tree_of}
 use Rattle.grammar.specs.Outcome.{Outcome}
 use Rattle.semantics.specs.Rules.{is_false, and_rule, or_rule, any}
 use Rattle.semantics.specs.Presence.{is_hinweis, is_gate, mixes_with, presence_with, mixes, presence, oracle_of, answers_fit}
 use Rattle.semantics.specs.Truth.{is_judged, Counts, truth_with, cited_truth, counts_on, truth}
-use Rattle.semantics.specs.Violations.{violated, violated_of, violations_with, violations}
+use Rattle.semantics.specs.Violations.{violations_with, violations}
 use Rattle.semantics.specs.Packages.{is_paket, read_row, rows_of, pakete}
 use Rattle.semantics.specs.Pairs as pairs
 use Rattle.semantics.proofs.Pairs.{same_is, same_refl}
 use Rattle.semantics.specs.Kept.{Kept}
-use Rattle.semantics.proofs.Kept.{truth_kept}
+use Rattle.semantics.proofs.Kept.{truth_kept, violations_kept}
 use Rattle.semantics.specs.Answers.{numbered, rowed, pakete_answer, eval_answer, truth_answer, violations_answer, eval_and_truth_answer}
 
 -- The kinds, if Format begins at a given number.
@@ -172,7 +172,7 @@ module _ (first : ℕ) where
 
   -- the violations
   abbrev pub violations_from : (value : List ℕ) → Expr → List ℕ
-  violations_from value = violations_with (counts_from value)
+  violations_from value = violations_with (counts_from value) 0
 
 -- presence is the same where the same texts are Hinweise and the same gate
 presence-same : (first : ℕ) → ((t : List ℕ) → is_hinweis (kind_from first t) ≡ is_hinweis (kind_of t)) → ((t : List ℕ) → is_gate (kind_from first t) ≡ is_gate (kind_of t))
@@ -240,7 +240,7 @@ module _ (value : List ℕ) where
       by (inr m) = rw (m.1, m.2, unregistered_900 t value m.0)
 
   truths_settle : (n : ℕ) (e : Expr) → settles (truth_with (counts_from 900 value) n e) (truth_with (counts_on value) n e) ≡ true
-  truths_settle = truth_kept settles settles_kept (counts_from 900 value) (counts_on value) counts_settle
+  truths_settle n e = truth_kept settles (counts_from 900 value) (counts_on value) settles_kept n e (λ i l. counts_settle (n + i) (get_or (citations e) i []))
 
   -- a format truth is as before, or was Unknown and is True
   pub truth-settles : (e : Expr) → Settled (truth_from 900 value e) (truth value e)
@@ -254,26 +254,13 @@ module _ (value : List ℕ) where
       by (inl is) = ap is_false (sym is)
       by (inr m) = ap is_false m.0 ∙ sym (ap is_false m.1)
 
-  mutual
-    unfolding violated
-
-    violated_stay : (n : ℕ) (e : Expr) → violated (counts_from 900 value) n e ≡ violated (counts_on value) n e
-    violated_stay n (cite t) = rw (false_stays (counts_from 900 value n t) (counts_on value n t) (counts_settle n t))
-    violated_stay n (Then es) = violated_stay_of n es
-    violated_stay n (join o es) = violated_stay_of n es
-
-    violated_stay_of : (n : ℕ) (es : Exprs) → violated_of (counts_from 900 value) n es ≡ violated_of (counts_on value) n es
-    violated_stay_of n none = refl
-    violated_stay_of n (more e es) = rw (violated_stay n e, violated_stay_of (n + count e) es)
-
   -- from 901 on, the violations are those that are used
   pub violations_now : (e : Expr) → violations_from 901 value e ≡ violations value e
-  violations_now e = ap (λ c. violations_with c e) (counts_now value)
+  violations_now e = ap (λ c. violations_with c 0 e) (counts_now value)
 
-  -- they are as before
+  -- they are the same from 900 on
   pub violations_stay : (e : Expr) → violations_from 900 value e ≡ violations value e
-  unfolding violations_with
-  violations_stay e = rw (false_stays (truth_from 900 value e) (truth value e) (truths_settle 0 e), violated_stay 0 e)
+  violations_stay e = violations_kept settles (counts_from 900 value) (counts_on value) settles_kept false_stays 0 e (λ i l. counts_settle (0 + i) (get_or (citations e) i []))
 
 -- `[900]` itself was Unknown and is True
 pub nine_hundred : (truth_from 900 [] (cite (ascii "900")) ≡ Unknown) × (truth [] (cite (ascii "900")) ≡ True)

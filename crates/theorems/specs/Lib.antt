@@ -6,3 +6,4 @@ pub mod FormatRange
 pub mod FullForm
 pub mod Gateway
 pub mod Remarks
+pub mod Violations

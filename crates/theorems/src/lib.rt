@@ -1,3 +1,3 @@
-// Demand 3 and the cases P1 to P12, over the definitions that the public contracts cite. No code.
+// What is promised of the whole, and worked cases, over the definitions that the public contracts cite. No code.
 
 #![tactic(auto)]

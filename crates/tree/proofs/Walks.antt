@@ -13,7 +13,7 @@ use lib.Seq.{get_or-drop}
 use borrow.Author.Tests.{ltb-true, ltb-false}
 use Rattle.refusal.specs.declared.Refusal.TheVariants.{NotATree}
 use Rattle.grammar.specs.Expr.{And, Or, Xor, Expr, Exprs, cite, Then, join, none, more, ◌◂◌, ◌⧺◌, citations, citations_of, count, citations_append}
-use Rattle.grammar.proofs.Expr.{append_none, appends_assoc}
+use Rattle.grammar.proofs.Expr.{appends_assoc}
 use Rattle.grammar.specs.Reading.{Fits}
 use Rattle.grammar.specs.Rows.{many, span, spans, firsts, children, build, rows_span}
 use Rattle.grammar.specs.Bytes.{head_size, nodes, cites, cites_at, texts_at, rows_from, rows_in, texts_in, is_tree, forest_at, tree_at, tree_of}
@@ -114,7 +114,6 @@ pub record Walk (b : List ℕ) (row left child : ℕ) : Type 0 where
   pub whole : children (tree_at b row) ≡ done ⧺ firsts left (forest_at b child)
   pub counts : many (firsts left (forest_at b child)) ≡ left
   pub within : child ≤ nodes b
-  pub number : first_at b child ≡ first_at b row + length (citations_of done)
 
 number_inner : (n : ℕ) (e : Expr) → (node_kind e ≡ Citation → ⊥) → row_number n e ≡ many (children e)
 unfolding node_kind children
@@ -154,7 +153,7 @@ first_below b h row l k =
 
 -- before the first child
 pub walk_begins : (b : List ℕ) → is_tree b ≡ true → (row : ℕ) → row < nodes b → (node_kind (tree_at b row) ≡ Citation → ⊥) → Walk b row (number_at b row) (row + 1)
-unfolding ◌⧺◌ citations_of
+unfolding ◌⧺◌
 walk_begins b h row l k =
     let c = children-at b h row l k in
     record {
@@ -162,7 +161,6 @@ walk_begins b h row l k =
       whole = c.0;
       counts = ap many (sym c.0) ∙ c.1;
       within = omega (arith, l);
-      number = first_below b h row l k ∙ sym (add-zero (first_at b row));
     }
 
 past_end : (b : List ℕ) → forest_at b (nodes b) ≡ none
@@ -205,9 +203,6 @@ span_children (cite t) = omega arith
 span_children (Then es) = omega arith
 span_children (join o es) = omega arith
 
-number_next : (total row child next n done after h s c c' : ℕ) → child ≡ row + done → child ≡ total - h → next ≡ total - s → h ≡ c + s → after ≡ done + c' → c' ≡ c → n + (c + s) ≡ total → n ≡ child → next ≡ row + after
-number_next total row child next n done after h s c c' e₁ e₂ e₃ e₄ e₅ e₆ l e₇ = omega arith
-
 -- the child that is next
 pub record Next (b : List ℕ) (row left child : ℕ) : Type 0 where
   pub inside : child < nodes b
@@ -218,7 +213,7 @@ pub record Next (b : List ℕ) (row left child : ℕ) : Type 0 where
 
 -- a turn of the loop
 pub walk_next : (b : List ℕ) → is_tree b ≡ true → (row left child : ℕ) → Walk b row left child → 0 < left → Next b row left child
-unfolding ◌⧺◌ citations_of
+unfolding ◌⧺◌
 walk_next b tree row left child w h =
     let l = next_in b left child h w.within w.counts in
     let p = spot b tree child l in
@@ -229,12 +224,6 @@ walk_next b tree row left child w h =
     let cut : firsts left (forest_at b child) ≡ e ◂ rest =
     ap (firsts left) p.forest ∙ firsts_more left p.e p.st h ∙ ap (λ x. x ◂ firsts (left - 1) p.st) same ∙ ap (λ x. e ◂ firsts (left - 1) x) (sym on) in
     let all : children (tree_at b row) ≡ w.done ⧺ (e ◂ rest) = w.whole ∙ ap (λ x. w.done ⧺ x) cut in
-    let cites-here : length (citations_of (p.e ◂ p.st)) ≡ count p.e + length (citations_of p.st) = length-append (citations p.e) (citations_of p.st) in
-    let first-here = first_of b child (p.e ◂ p.st) p.forest in
-    let first_next = first_of b (child + span e) p.st on in
-    let one : length (citations_of (e ◂ none)) ≡ count e = length-append (citations e) [] ∙ add-zero (count e) in
-    let cited : length (citations_of (w.done ⧺ (e ◂ none))) ≡ length (citations_of w.done) + count e =
-    ap length (citations_append w.done (e ◂ none)) ∙ length-append (citations_of w.done) (citations_of (e ◂ none)) ∙ ap (λ (x : ℕ). length (citations_of w.done) + x) one in
     record {
       inside = l;
       some = span_some e;
@@ -245,15 +234,21 @@ walk_next b tree row left child w h =
         whole = all ∙ sym (appends_assoc w.done (e ◂ none) rest);
         counts = many_less e rest left (sym (ap many cut) ∙ w.counts);
         within = omega (arith, ap span p.tree, p.inside);
-        number = number_next (cites b) (first_at b row) (first_at b child) _ p.n _ _ _ _ _ _ w.number first-here first_next cites-here cited (ap count p.tree) p.total p.first;
       };
     }
 
--- after the last child
-pub walk_ends : (b : List ℕ) (row left child : ℕ) (w : Walk b row left child) → left ≤ 0 → children (tree_at b row) ≡ w.done
+-- no child is left
+pub firsts_end : (left : ℕ) (es : Exprs) → left ≤ 0 → firsts left es ≡ none
 unfolding firsts
-walk_ends b row zero child w h = w.whole ∙ append_none w.done
-walk_ends b row (suc left) child w h = absurd (omega arith)
+firsts_end zero es h = refl
+firsts_end (suc left) es h = absurd (omega arith)
+
+-- the next child's first citation
+pub first_next : (b : List ℕ) → is_tree b ≡ true → (i : ℕ) → i < nodes b → first_at b i + count (tree_at b i) ≡ first_at b (i + span (tree_at b i))
+first_next b tree i l =
+    let s = spot b tree i l in
+    let on : forest_at b (i + span (tree_at b i)) ≡ s.st = ap (λ x. forest_at b (i + span x)) s.tree ∙ s.after in
+    omega (arith, first_of b (i + span (tree_at b i)) s.st on, s.first, s.total, ap count s.tree)
 
 -- a step of a walk over rows: the next is a row, and the rest is fewer by one
 pub row_next : (b : List ℕ) → is_tree b ≡ true → (left child : ℕ) → child ≤ nodes b → many (firsts left (forest_at b child)) ≡ left → 0 < left

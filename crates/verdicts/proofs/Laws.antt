@@ -1,12 +1,13 @@
--- The walk over the rows: a node's truth by its operands' tally, numbers one after another, and what `truth` and `violations` answer. Assumes nothing.
+-- Judging: what citations count as, numbers listed and taken back, the walk over the rows, and what `truth` and `violations` answer. Assumes nothing.
 use Rattle.std.specs.Prelude.{Result, Ok, Err}
 use mathlib.Core.Path.{◌≡◌, refl, sym, ap, ◌∙◌, subst}
 use mathlib.Core.List.{List, [], ◌∷◌, ◌++◌, append_assoc, append-nil}
 use mathlib.Core.Logic.{◌⊎◌, inl, inr}
-use mathlib.Core.Bool.{Bool, true, false, not}
-use Prim.Native.Nat.{ℕ, zero, suc, ◌+◌, ◌-◌, ◌/◌, ◌≤◌, ◌<◌}
+use mathlib.Core.Bool.{Bool, true, false, cond}
+use Prim.Native.Nat.{ℕ, ◌+◌, ◌-◌, ◌*◌, ◌/◌, ◌≤◌, ◌<◌}
 use native.Mathlib.Omega.{arith}
-use lib.ListN.{length, take, length-append}
+use lib.ListN.{length, get_or, take, length-append}
+use lib.Seq.{length-take-le, take-take, take-append-le}
 use Rattle.refusal.specs.Result.{then, map_ok}
 use Rattle.refusal.specs.declared.Refusal.{Refusal}
 use Rattle.refusal.specs.declared.Refusal.TheVariants.{NotATree, NoRoom, WrongAnswers}
@@ -19,25 +20,29 @@ use Rattle.citation.specs.declared.Truth.TheVariants.{False, Unknown, True, Neut
 use Rattle.formats.specs.Table.{verdict}
 use Rattle.formats.specs.Answers.{verdict_truth}
 use Rattle.grammar.specs.Expr as expr
-use Rattle.grammar.specs.Expr.{Expr, Exprs, cite, join, none, ◌◂◌, ◌⧺◌, citations, citations_of, count, citations_append}
+use Rattle.grammar.specs.Expr.{Expr, Exprs, cite, join, none, ◌◂◌, citations, count}
+use Rattle.grammar.specs.Reading.{citation_limit}
 use Rattle.grammar.specs.Rows.{span, firsts, children}
 use Rattle.grammar.specs.Kinds.{node_kind, sign_kind}
 use Rattle.grammar.specs.declared.NodeKind.{NodeKind}
 use Rattle.grammar.specs.declared.NodeKind.TheVariants.{Citation}
-use Rattle.grammar.proofs.Sizes.{few-nodes}
 use Rattle.grammar.specs.Bytes.{two_bytes, nodes, cites, is_tree, forest_at, tree_at}
 use Rattle.grammar.specs.Outcome.{Outcome, answer_of, written_of}
 use Rattle.grammar.proofs.Outcome.{answer_fits, written_fits, answer_short, written_short}
 use Rattle.semantics.specs.Rules.{is_false}
-use Rattle.semantics.specs.Truth.{is_judged, truth_with, truths_with, cited_truth, counts_on, truth}
-use Rattle.semantics.specs.Violations.{violated, violated_of, violations_with, violations, number_bytes}
-use Rattle.semantics.proofs.Sizes.{numbers_length, violated_few}
+use Rattle.semantics.specs.Truth.{is_judged, Counts, truth_with, truths_with, cited_truth, counts_on, truth}
+use Rattle.semantics.specs.Violations.{fails, violations_with, violations_of, violations, number_bytes}
+use Rattle.semantics.specs.Pairs as pairs
+use Rattle.semantics.proofs.Pairs.{same_refl}
+use Rattle.semantics.specs.Kept.{EachCited}
+use Rattle.semantics.proofs.Kept.{truth_same, violations_same}
+use Rattle.semantics.proofs.Sizes.{numbers_length, violations_few}
 use Rattle.semantics.specs.Presence.{answers_fit}
-use Rattle.semantics.specs.Answers.{presence_by, numbered, truth_answer, violations_answer, eval_and_truth_answer}
+use Rattle.semantics.specs.Answers.{presence_by, numbered, list_outcome, truth_answer, violations_answer, eval_and_truth_answer}
 use Rattle.fields.specs.Appended.{Appended}
-use Rattle.fields.proofs.Appends.{nothing, both, same, whole, two_size}
+use Rattle.fields.proofs.Appends.{same, whole, two_size}
 use Rattle.tree.specs.Walk.{number_at, first_at, text_at}
-use Rattle.tree.proofs.Walks.{Walk, Next, leaf, root, no-tree, children-at, first_below, walk_begins, walk_next}
+use Rattle.tree.proofs.Walks.{Walk, Next, leaf, root, no-tree, children-at, first_below, walk_begins, walk_next, firsts_end, first_next}
 use denote.Enum.Bare.{sameb}
 use Rattle.citation.specs.contracts.Truth.{the_type}
 use Rattle.presence.specs.declared.Tally.{Tally}
@@ -45,8 +50,7 @@ use Rattle.presence.specs.Tallies.{no_tally, added, tallied}
 use Rattle.presence.proofs.Tallies.{and_ruled, or_ruled, tallied_last, tallied_none}
 use Rattle.verdicts.specs.declared.Judged.{Judged}
 use Rattle.verdicts.specs.Tallies.{rule_of}
-use Rattle.verdicts.specs.Judged.{cited_numbers, numbers_at, CitedJudged, RowJudged}
-use Rattle.grammar.specs.Reading.{node_limit}
+use Rattle.verdicts.specs.Judged.{counts_in, CitesJudged, ListedFrom, CitedJudged, RowJudged, TreeJudged}
 
 other_kind : (k : ConditionKind) → (k ≡ Format → ⊥) → (k ≡ Zeitpunkt → ⊥) → is_judged k ≡ false
 other_kind Voraussetzung f z = refl
@@ -80,237 +84,282 @@ said_false Unknown = refl
 said_false True = refl
 said_false Neutral = refl
 
-said_not : (v : Truth) → not (not (sameb the_type v False)) ≡ is_false v
-said_not False = refl
-said_not Unknown = refl
-said_not True = refl
-said_not Neutral = refl
+-- a test that was made of a truth
+pub false_tested : (v : Truth) {x y : Bool} → x ≡ sameb the_type v False → x ≡ y → y ≡ is_false v
+false_tested v e f = sym f ∙ e ∙ said_false v
 
--- and `!=`
-pub said_other : (v : Truth) {x y : Bool} → x ≡ not (sameb the_type v False) → x ≡ y → is_false v ≡ not y
-said_other v e f = sym (said_not v) ∙ ap not (sym e ∙ f)
-
-two_bytes_lem : (n : ℕ) → number_bytes (n ∷ []) ≡ two_bytes n
-unfolding number_bytes
-two_bytes_lem n = append-nil (two_bytes n)
-
-no_bytes : number_bytes [] ≡ []
-unfolding number_bytes
-no_bytes = refl
-
-module _ (value : List ℕ) (n : ℕ) (text : List ℕ) (t : Truth) (x : Bool) (e : t ≡ cited_truth value text) (f : x ≡ is_false t) where
-  -- a violated citation's number
-  pub cited_number : x ≡ true → two_bytes n ≡ cited_numbers value n text
-  unfolding cited_numbers
-  cited_number h = let yes : is_false (cited_truth value text) ≡ true = sym (ap is_false e) ∙ sym f ∙ h in rw yes (sym (two_bytes_lem n))
-
-  -- none of another
-  pub cited_nothing : x ≡ false → [] ≡ cited_numbers value n text
-  unfolding cited_numbers
-  cited_nothing h = let no : is_false (cited_truth value text) ≡ false = sym (ap is_false e) ∙ sym f ∙ h in rw no (sym no_bytes)
-
--- there is room for a violated citation's number
-pub cited_room : (n : ℕ) (bytes : List ℕ) → two_bytes n ≡ bytes → length bytes ≡ 2
-cited_room n bytes h = ap length (sym h) ∙ two_size n
-
-module _ (value : List ℕ) where
-  -- a node's truth, by its operands'
-  pub node-truth : (n : ℕ) (e : Expr) → (node_kind e ≡ Citation → ⊥) → rule_of (node_kind e) (tallied no_tally (truths_with (counts_on value) n (children e))) ≡ truth_with (counts_on value) n e
-  unfolding rule_of node_kind sign_kind children truth_with
-  node-truth n (cite t) h = absurd (h refl)
-  node-truth n (expr.Then es) h = sym (and_ruled (truths_with (counts_on value) n es))
-  node-truth n (join expr.And es) h = sym (and_ruled (truths_with (counts_on value) n es))
-  node-truth n (join expr.Or es) h = sym (or_ruled (truths_with (counts_on value) n es))
-  node-truth n (join expr.Xor es) h = sym (or_ruled (truths_with (counts_on value) n es))
-
-  -- and its numbers
-  pub node_violated : (n : ℕ) (e : Expr) → (node_kind e ≡ Citation → ⊥) → violated_of (counts_on value) n (children e) ≡ violated (counts_on value) n e
-  unfolding node_kind children violated
-  node_violated n (cite t) h = absurd (h refl)
-  node_violated n (expr.Then es) h = refl
-  node_violated n (join o es) h = refl
+-- Numbers in the list.
 
 numbers_append : (a b : List ℕ) → number_bytes (a ++ b) ≡ number_bytes a ++ number_bytes b
 unfolding number_bytes
 numbers_append [] b = refl
 numbers_append (n ∷ a) b = ap (λ x. two_bytes n ++ x) (numbers_append a b) ∙ sym (append_assoc (two_bytes n) (number_bytes a) (number_bytes b))
 
--- the loop over the children of the node at a row: the truths vs and the numbers ns of those that are done
-pub record State (value b : List ℕ) (row left child : ℕ) (tally : Tally) (at : ℕ) (base list : List ℕ) (w : ℕ) : Type 0 where
+one_number : (n : ℕ) → two_bytes n ≡ number_bytes (n ∷ [])
+unfolding number_bytes
+one_number n = sym (append-nil (two_bytes n))
+
+-- no number
+listed_none : (at : ℕ) (l : List ℕ) → ListedFrom [] at l l at
+unfolding number_bytes
+listed_none at l = record { ends = omega arith; has = sym (append-nil (take at l)) }
+
+listed_one : {n at q : ℕ} {old new : List ℕ} → Appended (two_bytes n) at old new q → ListedFrom (n ∷ []) at old new q
+listed_one {n} {at} {q} {old} {new} h = record { ends = omega (arith, h.ends, two_size n); has = h.has ∙ ap (λ x. take at old ++ x) (one_number n) }
+
+-- some numbers, and then others
+listed_both : {a b : List ℕ} {at p q : ℕ} {l₀ l₁ l₂ : List ℕ} → ListedFrom a at l₀ l₁ p → ListedFrom b p l₁ l₂ q → ListedFrom (a ++ b) at l₀ l₂ q
+listed_both {a} {b} {at} {p} {q} {l₀} {l₁} {l₂} h k = record {
+  ends = omega (arith, h.ends, k.ends, length-append a b);
+  has = k.has ∙ ap (λ x. x ++ number_bytes b) h.has ∙ append_assoc (take at l₀) (number_bytes a) (number_bytes b) ∙ ap (λ x. take at l₀ ++ x) (sym (numbers_append a b));
+}
+
+listed_same : {a b : List ℕ} {at q : ℕ} {old new : List ℕ} → a ≡ b → ListedFrom a at old new q → ListedFrom b at old new q
+listed_same {a} {b} {at} {q} {old} {new} e h = subst (λ x. ListedFrom x at old new q) e h
+
+-- numbers taken back: the place goes back
+listed_back : {a : List ℕ} {at q : ℕ} {old new : List ℕ} → at ≤ length old → ListedFrom a at old new q → ListedFrom [] at old new at
+unfolding number_bytes
+listed_back {a} {at} {q} {old} {new} l h =
+    let whole = length-take-le at old l in
+    record {
+      ends = omega arith;
+      has =
+          sym (take-take at q new (omega (arith, h.ends))) ∙ ap (take at) h.has ∙ take-append-le at (take at old) (number_bytes a) (omega (arith, whole))
+          ∙ take-take at at old (omega arith) ∙ sym (append-nil (take at old));
+    }
+
+-- A citation.
+
+module _ (truths : List Truth) {n at : ℕ} {old : List ℕ} {t : Truth} (e : t ≡ get_or truths n False) where
+  -- one that is False
+  pub false_listed : {x : Bool} {new : List ℕ} {q : ℕ} → x ≡ sameb the_type t False → x ≡ true → Appended (two_bytes n) at old new q → CitedJudged truths n at old new (record { truth = t; at = q })
+  false_listed {x} {new} {q} f h w =
+      let is : true ≡ is_false (get_or truths n False) = false_tested t f h ∙ ap is_false e in
+      record { is = e; listed = listed_same (ap (λ y. cond y (n ∷ []) []) is) (listed_one w) }
+
+  -- another
+  pub other_passed : {x : Bool} → x ≡ sameb the_type t False → x ≡ false → CitedJudged truths n at old old (record { truth = t; at = at })
+  other_passed {x} f h =
+      let is : false ≡ is_false (get_or truths n False) = false_tested t f h ∙ ap is_false e in
+      record { is = e; listed = listed_same (ap (λ y. cond y (n ∷ []) []) is) (listed_none at old) }
+
+-- The walk.
+
+module _ (counts : Counts) where
+  -- a node's truth, by its operands'
+  node-truth : (n : ℕ) (e : Expr) → (node_kind e ≡ Citation → ⊥) → rule_of (node_kind e) (tallied no_tally (truths_with counts n (children e))) ≡ truth_with counts n e
+  unfolding rule_of node_kind sign_kind children truth_with
+  node-truth n (cite t) h = absurd (h refl)
+  node-truth n (expr.Then es) h = sym (and_ruled (truths_with counts n es))
+  node-truth n (join expr.And es) h = sym (and_ruled (truths_with counts n es))
+  node-truth n (join expr.Or es) h = sym (or_ruled (truths_with counts n es))
+  node-truth n (join expr.Xor es) h = sym (or_ruled (truths_with counts n es))
+
+  -- and its violations
+  node_violations : (n : ℕ) (e : Expr) → (node_kind e ≡ Citation → ⊥) → cond (fails counts n e) (violations_of counts n (children e)) [] ≡ violations_with counts n e
+  unfolding node_kind children violations_with
+  node_violations n (cite t) h = absurd (h refl)
+  node_violations n (expr.Then es) h = refl
+  node_violations n (join o es) h = refl
+
+  truths_more : (n : ℕ) (e : Expr) (es : Exprs) → truths_with counts n (e ◂ es) ≡ truth_with counts n e ∷ truths_with counts (n + count e) es
+  unfolding truths_with
+  truths_more n e es = refl
+
+  violations_more : (n : ℕ) (e : Expr) (es : Exprs) → violations_of counts n (e ◂ es) ≡ violations_with counts n e ++ violations_of counts (n + count e) es
+  unfolding violations_of
+  violations_more n e es = refl
+
+  no_truths : (n : ℕ) (vs : List Truth) → vs ++ truths_with counts n none ≡ vs
+  unfolding truths_with
+  no_truths n vs = append-nil vs
+
+  no_violations : (n : ℕ) (ns : List ℕ) → ns ++ violations_of counts n none ≡ ns
+  unfolding violations_of
+  no_violations n ns = append-nil ns
+
+  leaf_truth : (n : ℕ) (t : List ℕ) (e : Expr) → e ≡ cite t → counts n t ≡ truth_with counts n e
+  unfolding truth_with
+  leaf_truth n t e h = sym (ap (truth_with counts n) h)
+
+  leaf_violations : (n : ℕ) (t : List ℕ) (e : Expr) → e ≡ cite t → cond (is_false (counts n t)) (n ∷ []) [] ≡ violations_with counts n e
+  unfolding violations_with truth_with
+  leaf_violations n t e h = sym (ap (violations_with counts n) h)
+
+-- the loop over the children of the node at a row: the truths vs of those that are done, and the numbers ns that they list
+pub record State (counts : Counts) (b : List ℕ) (row left child : ℕ) (tally : Tally) (from : ℕ) (base list : List ℕ) (at : ℕ) : Type 0 where
   pub walk : Walk b row left child
   pub vs : List Truth
-  pub judged : truths_with (counts_on value) (first_at b row) (children (tree_at b row)) ≡ vs ++ truths_with (counts_on value) (first_at b child) (firsts left (forest_at b child))
+  pub judged : truths_with counts (first_at b row) (children (tree_at b row)) ≡ vs ++ truths_with counts (first_at b child) (firsts left (forest_at b child))
   pub met : tally ≡ tallied no_tally vs
   pub ns : List ℕ
-  pub numbers : violated_of (counts_on value) (first_at b row) (children (tree_at b row)) ≡ ns ++ violated_of (counts_on value) (first_at b child) (firsts left (forest_at b child))
-  pub written : Appended (number_bytes ns) at base list w
+  pub numbers : violations_of counts (first_at b row) (children (tree_at b row)) ≡ ns ++ violations_of counts (first_at b child) (firsts left (forest_at b child))
+  pub listed : ListedFrom ns from base list at
+  pub low : at ≤ 2 * first_at b child
   pub kept : length list ≡ length base
 
 -- the child that is given
-pub state_from : {value b : List ℕ} {row left from child : ℕ} {tally : Tally} {at : ℕ} {base list : List ℕ} {w : ℕ} → State value b row left from tally at base list w → child ≡ from → State value b row left child tally at base list w
+pub state_from : {counts : Counts} {b : List ℕ} {row left from child : ℕ} {tally : Tally} {start : ℕ} {base list : List ℕ} {at : ℕ} → State counts b row left from tally start base list at → child ≡ from
+    → State counts b row left child tally start base list at
 state_from s e = rw e s
 
-truths_more : (value : List ℕ) (n : ℕ) (e : Expr) (es : Exprs) → truths_with (counts_on value) n (e ◂ es) ≡ truth_with (counts_on value) n e ∷ truths_with (counts_on value) (n + count e) es
-unfolding truths_with
-truths_more value n e es = refl
+first_most : (b : List ℕ) (row : ℕ) → first_at b row ≤ cites b
+unfolding first_at
+first_most b row = omega arith
 
-violated_more : (value : List ℕ) (n : ℕ) (e : Expr) (es : Exprs) → violated_of (counts_on value) n (e ◂ es) ≡ violated (counts_on value) n e ++ violated_of (counts_on value) (n + count e) es
-unfolding violated_of
-violated_more value n e es = refl
+module _ (truths : List Truth) (b : List ℕ) (tree : is_tree b ≡ true) where
+  abbrev c : Counts
+  c = counts_in truths
 
-cites_more : (e : Expr) (es : Exprs) → length (citations_of (e ◂ es)) ≡ count e + length (citations_of es)
-unfolding citations_of
-cites_more e es = length-append (citations e) (citations_of es)
-
-cites-both : (a b : Exprs) → length (citations_of (a ⧺ b)) ≡ length (citations_of a) + length (citations_of b)
-cites-both a b = ap length (citations_append a b) ∙ length-append (citations_of a) (citations_of b)
-
--- the next child's first citation comes after those of this one
-next-first : (b : List ℕ) (row left child : ℕ) (w : Walk b row left child) (x : Next b row left child) → first_at b (child + span (tree_at b child)) ≡ first_at b child + count (tree_at b child)
-next-first b row left child w x =
-    let e = tree_at b child in
-    let rest = firsts (left - 1) (forest_at b (child + span e)) in
-    let here = ap (λ y. length (citations_of y)) (w.whole ∙ ap (λ y. w.done ⧺ y) x.splits) in
-    let there = ap (λ y. length (citations_of y)) x.walk.whole in
-    omega (arith, w.number, x.walk.number, here, there, cites-both w.done (e ◂ rest), cites_more e rest, cites-both x.walk.done rest)
-
-firsts-zero : (left : ℕ) (es : Exprs) → left ≤ 0 → firsts left es ≡ none
-unfolding firsts
-firsts-zero zero es h = refl
-firsts-zero (suc left) es h = absurd (omega arith)
-
-no_truths_lem : (value : List ℕ) (n : ℕ) (vs : List Truth) → vs ++ truths_with (counts_on value) n none ≡ vs
-unfolding truths_with
-no_truths_lem value n vs = append-nil vs
-
-no_numbers : (value : List ℕ) (n : ℕ) (ns : List ℕ) → ns ++ violated_of (counts_on value) n none ≡ ns
-unfolding violated_of
-no_numbers value n ns = append-nil ns
-
-leaf_truth : (value : List ℕ) (n : ℕ) (t : List ℕ) (e : Expr) → e ≡ cite t → cited_truth value t ≡ truth_with (counts_on value) n e
-unfolding truth_with
-leaf_truth value n t e h = sym (ap (truth_with (counts_on value) n) h)
-
-leaf_numbers : (value : List ℕ) (n m : ℕ) (t : List ℕ) (e : Expr) → e ≡ cite t → n ≡ m → cited_numbers value n t ≡ number_bytes (violated (counts_on value) m e)
-unfolding cited_numbers violated
-leaf_numbers value n m t e h i = sym (rw (h, ← i))
-
-module _ (value b : List ℕ) (tree : is_tree b ≡ true) where
   -- before the first child
-  pub state_begins : (row at : ℕ) (base : List ℕ) → row < nodes b → (node_kind (tree_at b row) ≡ Citation → ⊥) → State value b row (number_at b row) (row + 1) no_tally at base base at
-  state_begins row at base l k =
-      let w = walk_begins b tree row l k in
+  pub state_begins : (row from m : ℕ) (base : List ℕ) (tally : Tally) → row < nodes b → (node_kind (tree_at b row) ≡ Citation → ⊥) → m ≡ number_at b row → tally ≡ no_tally → from ≤ 2 * first_at b row
+      → State c b row m (row + 1) tally from base base from
+  state_begins row from m base tally l k e f low =
       let kids = (children-at b tree row l k).0 in
-      record {
-        walk = w;
+      let first = first_below b tree row l k in
+      subst (λ (x : ℕ). State c b row x (row + 1) tally from base base from) (sym e) record {
+        walk = walk_begins b tree row l k;
         vs = [];
-        judged = ap (truths_with (counts_on value) (first_at b row)) kids ∙ ap (λ (x : ℕ). truths_with (counts_on value) x (firsts (number_at b row) (forest_at b (row + 1)))) (sym (first_below b tree row l k));
-        met = tallied_none no_tally;
+        judged = ap (truths_with c (first_at b row)) kids ∙ ap (λ (x : ℕ). truths_with c x (firsts (number_at b row) (forest_at b (row + 1)))) (sym first);
+        met = f ∙ tallied_none no_tally;
         ns = [];
-        numbers = ap (violated_of (counts_on value) (first_at b row)) kids ∙ ap (λ (x : ℕ). violated_of (counts_on value) x (firsts (number_at b row) (forest_at b (row + 1)))) (sym (first_below b tree row l k));
-        written = same (sym no_bytes) (nothing at base);
+        numbers = ap (violations_of c (first_at b row)) kids ∙ ap (λ (x : ℕ). violations_of c x (firsts (number_at b row) (forest_at b (row + 1)))) (sym first);
+        listed = listed_none from base;
+        low = omega (arith, low, first);
         kept = refl;
       }
 
-  -- the same, by what the code has
-  pub state_starts : (row at m : ℕ) (base : List ℕ) (tally : Tally) → row < nodes b → (node_kind (tree_at b row) ≡ Citation → ⊥) → m ≡ number_at b row → tally ≡ no_tally → State value b row m (row + 1) tally at base base at
-  state_starts row at m base tally l k e f =
-      subst (λ (x : ℕ). State value b row x (row + 1) tally at base base at) (sym e) (subst (λ x. State value b row (number_at b row) (row + 1) x at base base at) (sym f) (state_begins row at base l k))
+  module _ {row left child from : ℕ} {tally : Tally} {base list : List ℕ} {at : ℕ} (s : State c b row left child tally from base list at) where
+    module _ (h : 0 < left) where
+      -- the child that is next
+      pub state_next : Next b row left child
+      state_next = walk_next b tree row left child s.walk h
 
-  module _ {row left child at : ℕ} {tally : Tally} {base list : List ℕ} {w : ℕ} (s : State value b row left child tally at base list w) (h : 0 < left) where
-    -- the child that is next
-    pub state_next : Next b row left child
-    state_next = walk_next b tree row left child s.walk h
+      -- after it
+      pub state_again : {new : List ℕ} (r : Judged) → RowJudged truths b child at list new r → length new ≡ length list → {after : Tally} → after ≡ added tally r.truth
+          → State c b row (left - 1) (child + span (tree_at b child)) after from base new r.at
+      state_again {new} r j k {after} t =
+          let e = tree_at b child in
+          let n = first_at b child in
+          let rest = firsts (left - 1) (forest_at b (child + span e)) in
+          let one = truth_with c n e in
+          let here = violations_with c n e in
+          let next = first_next b tree child state_next.inside in
+          record {
+            walk = state_next.walk;
+            vs = s.vs ++ (one ∷ []);
+            judged =
+                s.judged ∙ ap (λ x. s.vs ++ truths_with c n x) state_next.splits ∙ ap (λ x. s.vs ++ x) (truths_more c n e rest)
+                ∙ ap (λ (x : ℕ). s.vs ++ (one ∷ truths_with c x rest)) next ∙ sym (append_assoc s.vs (one ∷ []) (truths_with c (first_at b (child + span e)) rest));
+            met = t ∙ ap (λ x. added x r.truth) s.met ∙ ap (added (tallied no_tally s.vs)) j.is ∙ tallied_last no_tally s.vs one;
+            ns = s.ns ++ here;
+            numbers =
+                s.numbers ∙ ap (λ x. s.ns ++ violations_of c n x) state_next.splits ∙ ap (λ x. s.ns ++ x) (violations_more c n e rest)
+                ∙ ap (λ (x : ℕ). s.ns ++ (here ++ violations_of c x rest)) next ∙ sym (append_assoc s.ns here (violations_of c (first_at b (child + span e)) rest));
+            listed = listed_both s.listed j.listed;
+            low = omega (arith, s.low, j.listed.ends, violations_few c n e, next);
+            kept = k ∙ s.kept;
+          }
 
-    cut_numbers : violated_of (counts_on value) (first_at b child) (firsts left (forest_at b child)) ≡ violated (counts_on value) (first_at b child) (tree_at b child) ++ violated_of (counts_on value) (first_at b (child + span (tree_at b child))) (firsts (left - 1) (forest_at b (child + span (tree_at b child))))
-    cut_numbers =
-        let e = tree_at b child in
-        let rest = firsts (left - 1) (forest_at b (child + span e)) in
-        ap (violated_of (counts_on value) (first_at b child)) state_next.splits ∙ violated_more value (first_at b child) e rest
-        ∙ ap (λ (x : ℕ). violated (counts_on value) (first_at b child) e ++ violated_of (counts_on value) x rest) (sym (next-first b row left child s.walk state_next))
+    module _ (h : left ≤ 0) (kind : NodeKind) (g : kind ≡ node_kind (tree_at b row)) (k : kind ≡ Citation → ⊥) (v : Truth) (t : v ≡ rule_of kind tally) where
+      inner : node_kind (tree_at b row) ≡ Citation → ⊥
+      inner y = k (g ∙ y)
 
-    cut_truths : truths_with (counts_on value) (first_at b child) (firsts left (forest_at b child)) ≡ truth_with (counts_on value) (first_at b child) (tree_at b child) ∷ truths_with (counts_on value) (first_at b (child + span (tree_at b child))) (firsts (left - 1) (forest_at b (child + span (tree_at b child))))
-    cut_truths =
-        let e = tree_at b child in
-        let rest = firsts (left - 1) (forest_at b (child + span e)) in
-        ap (truths_with (counts_on value) (first_at b child)) state_next.splits ∙ truths_more value (first_at b child) e rest
-        ∙ ap (λ (x : ℕ). truth_with (counts_on value) (first_at b child) e ∷ truths_with (counts_on value) x rest) (sym (next-first b row left child s.walk state_next))
+      ends_truth : v ≡ truth_with c (first_at b row) (tree_at b row)
+      ends_truth =
+          let vs : truths_with c (first_at b row) (children (tree_at b row)) ≡ s.vs =
+          s.judged ∙ ap (λ x. s.vs ++ truths_with c (first_at b child) x) (firsts_end left (forest_at b child) h) ∙ no_truths c (first_at b child) s.vs in
+          t ∙ ap (λ x. rule_of x tally) g ∙ ap (rule_of (node_kind (tree_at b row))) (s.met ∙ ap (tallied no_tally) (sym vs)) ∙ node-truth c (first_at b row) (tree_at b row) inner
 
-    -- there is room for its numbers
-    pub state_room : at + length (numbers_at value b row) ≤ length base → (node_kind (tree_at b row) ≡ Citation → ⊥) → w + length (numbers_at value b child) ≤ length list
-    unfolding numbers_at
-    state_room room k =
-        let first = first_at b row in
-        let e = tree_at b child in
-        let here = violated (counts_on value) (first_at b child) e in
-        let after = violated_of (counts_on value) (first_at b (child + span e)) (firsts (left - 1) (forest_at b (child + span e))) in
-        let all = sym (node_violated value first (tree_at b row) k) ∙ s.numbers ∙ ap (λ x. s.ns ++ x) cut_numbers in
-        omega (arith, room, s.kept, s.written.ends, numbers_length (violated (counts_on value) first (tree_at b row)), numbers_length s.ns, numbers_length here, ap length all, length-append s.ns (here ++ after), length-append here after)
+      ends_numbers : cond (is_false v) s.ns [] ≡ violations_with c (first_at b row) (tree_at b row)
+      ends_numbers =
+          let ns : violations_of c (first_at b row) (children (tree_at b row)) ≡ s.ns =
+          s.numbers ∙ ap (λ x. s.ns ++ violations_of c (first_at b child) x) (firsts_end left (forest_at b child) h) ∙ no_violations c (first_at b child) s.ns in
+          ap (λ x. cond (is_false x) s.ns []) ends_truth ∙ ap (λ x. cond (fails c (first_at b row) (tree_at b row)) x []) (sym ns) ∙ node_violations c (first_at b row) (tree_at b row) inner
 
-    -- after it
-    pub state_again : {new : List ℕ} (r : Judged) → RowJudged value b child w list new r → length new ≡ length list → {after : Tally} → after ≡ added tally r.truth
-        → State value b row (left - 1) (child + span (tree_at b child)) after at base new r.at
-    unfolding numbers_at
-    state_again {new} r j k {after} t =
-        let e = tree_at b child in
-        let rest = firsts (left - 1) (forest_at b (child + span e)) in
-        let one = truth_with (counts_on value) (first_at b child) e in
-        let here = violated (counts_on value) (first_at b child) e in
-        record {
-          walk = state_next.walk;
-          vs = s.vs ++ (one ∷ []);
-          judged = s.judged ∙ ap (λ x. s.vs ++ x) cut_truths ∙ sym (append_assoc s.vs (one ∷ []) (truths_with (counts_on value) (first_at b (child + span e)) rest));
-          met = t ∙ ap (λ x. added x r.truth) s.met ∙ ap (added (tallied no_tally s.vs)) j.is ∙ tallied_last no_tally s.vs one;
-          ns = s.ns ++ here;
-          numbers = s.numbers ∙ ap (λ x. s.ns ++ x) cut_numbers ∙ sym (append_assoc s.ns here (violated_of (counts_on value) (first_at b (child + span e)) rest));
-          written = same (sym (numbers_append s.ns here)) (both s.written j.written);
-          kept = k ∙ s.kept;
-        }
+      -- after the last: a node that is False keeps what is listed
+      pub state_keeps : {x : Bool} → x ≡ sameb the_type v False → x ≡ true → RowJudged truths b row from base list (record { truth = v; at = at })
+      state_keeps e y = record { is = ends_truth; listed = listed_same (ap (λ z. cond z s.ns []) (false_tested v e y) ∙ ends_numbers) s.listed }
 
-  -- after the last
-  pub state_ends : {row left child at : ℕ} {tally : Tally} {base list : List ℕ} {w : ℕ} → State value b row left child tally at base list w → left ≤ 0 → (kind : NodeKind) → kind ≡ node_kind (tree_at b row) → (kind ≡ Citation → ⊥) → (r : Judged)
-      → r.truth ≡ rule_of kind tally → r.at ≡ w → RowJudged value b row at base list r
-  unfolding numbers_at
-  state_ends {row} {left} {child} {at} {tally} {base} {list} {w} s h kind g k r t q =
-      let no : node_kind (tree_at b row) ≡ Citation → ⊥ = λ y. k (g ∙ y) in
-      let vs : truths_with (counts_on value) (first_at b row) (children (tree_at b row)) ≡ s.vs = s.judged ∙ ap (λ x. s.vs ++ truths_with (counts_on value) (first_at b child) x) (firsts-zero left (forest_at b child) h) ∙ no_truths_lem value (first_at b child) s.vs in
-      let ns : violated_of (counts_on value) (first_at b row) (children (tree_at b row)) ≡ s.ns = s.numbers ∙ ap (λ x. s.ns ++ violated_of (counts_on value) (first_at b child) x) (firsts-zero left (forest_at b child) h) ∙ no_numbers value (first_at b child) s.ns in
-      let bytes : number_bytes s.ns ≡ number_bytes (violated (counts_on value) (first_at b row) (tree_at b row)) = ap number_bytes (sym ns ∙ node_violated value (first_at b row) (tree_at b row) no) in
-      record {
-        is = t ∙ ap (λ x. rule_of x tally) g ∙ ap (rule_of (node_kind (tree_at b row))) (s.met ∙ ap (tallied no_tally) (sym vs)) ∙ node-truth value (first_at b row) (tree_at b row) no;
-        written = subst (λ (x : ℕ). Appended (number_bytes (violated (counts_on value) (first_at b row) (tree_at b row))) at base list x) (sym q) (same bytes s.written);
-      }
+      -- another takes it back
+      pub state_drops : {x : Bool} → x ≡ sameb the_type v False → x ≡ false → from ≤ length base → RowJudged truths b row from base list (record { truth = v; at = from })
+      state_drops e y l = record { is = ends_truth; listed = listed_same (ap (λ z. cond z s.ns []) (false_tested v e y) ∙ ends_numbers) (listed_back l s.listed) }
 
   -- a citation's row
-  pub leaf_judged : {row n at : ℕ} {old new : List ℕ} {r : Judged} → row < nodes b → node_kind (tree_at b row) ≡ Citation → n ≡ number_at b row → CitedJudged value n (text_at b n) at old new r → RowJudged value b row at old new r
-  unfolding numbers_at
+  pub leaf_judged : {row n at : ℕ} {old new : List ℕ} {r : Judged} → row < nodes b → node_kind (tree_at b row) ≡ Citation → n ≡ number_at b row → CitedJudged truths n at old new r → RowJudged truths b row at old new r
   leaf_judged {row} {n} {at} {old} {new} {r} l k e j =
       let f = leaf b tree row l k in
-      let is : tree_at b row ≡ cite (text_at b n) = f.is ∙ ap (λ (x : ℕ). cite (text_at b x)) (sym e) in
-      record { is = j.is ∙ leaf_truth value (first_at b row) (text_at b n) (tree_at b row) is; written = same (leaf_numbers value n (first_at b row) (text_at b n) (tree_at b row) is (e ∙ f.first)) j.written }
+      let here : n ≡ first_at b row = e ∙ f.first in
+      record {
+        is = j.is ∙ ap (λ (x : ℕ). get_or truths x False) here ∙ leaf_truth c (first_at b row) _ (tree_at b row) f.is;
+        listed = listed_same (ap (λ (x : ℕ). cond (is_false (get_or truths x False)) (x ∷ []) []) here ∙ leaf_violations c (first_at b row) _ (tree_at b row) f.is) j.listed;
+      }
 
   -- its number is a citation's, and there is room for it
-  pub leaf_asked : (row n at size : ℕ) → row < nodes b → node_kind (tree_at b row) ≡ Citation → n ≡ number_at b row → at + length (numbers_at value b row) ≤ size → (n < cites b) × (at + length (cited_numbers value n (text_at b n)) ≤ size)
-  unfolding numbers_at
-  leaf_asked row n at size l k e room =
-      let f = leaf b tree row l k in
-      let is : tree_at b row ≡ cite (text_at b n) = f.is ∙ ap (λ (x : ℕ). cite (text_at b x)) (sym e) in
-      (omega (arith, f.number, e), omega (arith, room, ap length (leaf_numbers value n (first_at b row) (text_at b n) (tree_at b row) is (e ∙ f.first))))
+  pub leaf_asked : (row n at size : ℕ) → row < nodes b → node_kind (tree_at b row) ≡ Citation → n ≡ number_at b row → cites b ≤ length truths → 2 * cites b ≤ size → at ≤ 2 * first_at b row
+      → (n < length truths) × (at + 2 ≤ size)
+  leaf_asked row n at size l k e many room low = let f = leaf b tree row l k in (omega (arith, f.number, e, many), omega (arith, f.number, f.first, room, low))
 
-  -- at most 511 rows
-  pub few_rows : nodes b ≤ node_limit
-  few_rows = let r = root b tree in omega (arith, r.size, few-nodes (tree_at b 0) r.fits)
+  -- a place in the list
+  pub placed : (row at size : ℕ) → 2 * cites b ≤ size → at ≤ 2 * first_at b row → at ≤ size
+  placed row at size room low = omega (arith, room, low, first_most b row)
 
-  -- the whole tree's truth
-  pub root_truth : truth_with (counts_on value) (first_at b 0) (tree_at b 0) ≡ truth value (tree_at b 0)
-  root_truth = ap (λ (x : ℕ). truth_with (counts_on value) x (tree_at b 0)) (root b tree).first
+-- The whole.
 
-  -- all numbers fit into the list
-  pub list_room : length (numbers_at value b 0) ≤ 512
-  unfolding numbers_at
-  list_room =
+-- no more citations than a tree may have
+pub cites_most : (b : List ℕ) → is_tree b ≡ true → cites b ≤ citation_limit
+cites_most b tree = let r = root b tree in omega (arith, r.counts, r.fits.few)
+
+module _ (value b : List ℕ) (tree : is_tree b ≡ true) where
+  -- by their truths the citations count as they do on the value
+  counted_same : (truths : List Truth) → CitesJudged value b (cites b) truths → EachCited pairs.same (counts_in truths) (counts_on value) 0 (citations (tree_at b 0))
+  unfolding text_at
+  counted_same truths k i l =
       let r = root b tree in
-      omega (arith, numbers_length (violated (counts_on value) (first_at b 0) (tree_at b 0)), violated_few (counts_on value) (first_at b 0) (tree_at b 0), r.fits.few)
+      let text : get_or (citations (tree_at b 0)) i [] ≡ text_at b i = ap (λ x. get_or x i []) r.cited in
+      let here : get_or truths (0 + i) False ≡ get_or truths i False = ap (λ (x : ℕ). get_or truths x False) (omega arith) in
+      rw (here ∙ k.says i (omega (arith, l, r.counts)) ∙ ap (cited_truth value) (sym text)) (same_refl (cited_truth value (get_or (citations (tree_at b 0)) i [])))
+
+  -- judged by the citations' truths is judged on the value
+  pub tree_judged : {truths : List Truth} {old new : List ℕ} {r : Judged} → CitesJudged value b (cites b) truths → RowJudged truths b 0 0 old new r → TreeJudged value b old new r
+  tree_judged {truths} {old} {new} {r} k j =
+      let e = tree_at b 0 in
+      let first = (root b tree).first in
+      let c = counts_in truths in
+      let all = counted_same truths k in
+      record {
+        is = j.is ∙ ap (λ (x : ℕ). truth_with c x e) first ∙ truth_same c (counts_on value) 0 e all;
+        listed = listed_same (ap (λ (x : ℕ). violations_with c x e) first ∙ violations_same c (counts_on value) 0 e all) j.listed;
+      }
+
+  module _ {base list : List ℕ} {r : Judged} (j : TreeJudged value b base list r) where
+    module _ (k : length list ≡ length base) (room : 2 * cites b ≤ length base) where
+      -- what is listed fits into the list
+      pub list_fits : r.at ≤ length list
+      list_fits = omega (arith, j.listed.ends, violations_few (counts_on value) 0 (tree_at b 0), (root b tree).counts, k, room)
+
+      -- and can be cut from it
+      pub list_cut : r.at ≡ length (take r.at list)
+      list_cut = sym (length-take-le r.at list list_fits)
+
+    module _ (out : List ℕ) where
+      -- 14
+      pub list_short : length out < r.at → record { result_value : Err NoRoom ≡ answer_of (list_outcome value (tree_at b 0)) (length out); out_after : out ≡ written_of (list_outcome value (tree_at b 0)) out }
+      list_short l =
+          let w = numbered (violations value (tree_at b 0)) in
+          let short : length out < length w.bytes = omega (arith, l, j.listed.ends, numbers_length (violations value (tree_at b 0))) in
+          record { result_value = sym (answer_short w (length out) short); out_after = sym (written_short w out short) }
+
+      -- their count, and their numbers
+      pub list_done : {new : List ℕ} {q : ℕ} → r.at ≤ length out → Appended (take r.at list) 0 out new q
+          → record { result_value : Ok (r.at / 2) ≡ answer_of (list_outcome value (tree_at b 0)) (length out); out_after : new ≡ written_of (list_outcome value (tree_at b 0)) out }
+      list_done {new} {q} l p =
+          let ns = violations value (tree_at b 0) in
+          let w = numbered ns in
+          let fits : length w.bytes ≤ length out = omega (arith, l, j.listed.ends, numbers_length ns) in
+          let half : r.at / 2 ≡ length ns = omega (arith, j.listed.ends) in
+          record { result_value = ap Ok half ∙ sym (answer_fits w (length out) fits); out_after = whole (same j.listed.has p) ∙ sym (written_fits w out fits) }
 
 module _ (b value : List ℕ) where
   -- 15
@@ -318,9 +367,9 @@ module _ (b value : List ℕ) where
   unfolding truth_answer then
   truth-no-tree h = rw (no-tree b h)
 
-  pub violations-no-tree : (old : List ℕ) → is_tree b ≡ false → record { result_value : Err NotATree ≡ answer_of (violations_answer b value) (length old); out_after : old ≡ written_of (violations_answer b value) old }
+  pub violations-no-tree : (out : List ℕ) → is_tree b ≡ false → record { result_value : Err NotATree ≡ answer_of (violations_answer b value) (length out); out_after : out ≡ written_of (violations_answer b value) out }
   unfolding violations_answer answer_of written_of then
-  violations-no-tree old h = record { result_value = rw (no-tree b h); out_after = rw (no-tree b h) }
+  violations-no-tree out h = record { result_value = rw (no-tree b h); out_after = rw (no-tree b h) }
 
   module _ (tree : is_tree b ≡ true) where
     -- 10 and 11
@@ -333,66 +382,17 @@ module _ (b value : List ℕ) where
     unfolding truth_answer then
     truth_done v a e = rw (root b tree).is (ap Ok e ∙ sym (a (Ok (truth value (tree_at b 0)))))
 
-    turned_is : (k : Refusal) → ((r : Outcome ℕ) → admitted value_limit value r ≡ Err k) → violations_answer b value ≡ Err k
-    unfolding violations_answer then
-    turned_is k a = rw (root b tree).is (a (Ok (numbered (violations value (tree_at b 0)))))
-
-    answer_is : ((r : Outcome ℕ) → admitted value_limit value r ≡ r) → violations_answer b value ≡ Ok (numbered (violations value (tree_at b 0)))
-    unfolding violations_answer then
-    answer_is a = rw (root b tree).is (a (Ok (numbered (violations value (tree_at b 0)))))
-
     -- 10 and 11
-    pub violations_turned : (old : List ℕ) (k : Refusal) → ((r : Outcome ℕ) → admitted value_limit value r ≡ Err k) → record { result_value : Err k ≡ answer_of (violations_answer b value) (length old); out_after : old ≡ written_of (violations_answer b value) old }
-    unfolding answer_of written_of then
-    violations_turned old k a = record { result_value = rw (turned_is k a); out_after = rw (turned_is k a) }
+    pub violations_turned : (out : List ℕ) (k : Refusal) → ((r : Outcome ℕ) → admitted value_limit value r ≡ Err k) → record { result_value : Err k ≡ answer_of (violations_answer b value) (length out); out_after : out ≡ written_of (violations_answer b value) out }
+    unfolding violations_answer answer_of written_of then
+    violations_turned out k a =
+        let is = a (list_outcome value (tree_at b 0)) in
+        rw ((root b tree).is, is) record { result_value = refl; out_after = refl }
 
-    module _ (old : List ℕ) (r : Judged) {base list : List ℕ} (a : (o : Outcome ℕ) → admitted value_limit value o ≡ o) (j : RowJudged value b 0 0 base list r) where
-      violations_are : is_false r.truth ≡ true → violations value (tree_at b 0) ≡ violated (counts_on value) (first_at b 0) (tree_at b 0)
-      unfolding violations_with
-      violations_are t = let yes : is_false (truth value (tree_at b 0)) ≡ true = sym (ap is_false (j.is ∙ root_truth value b tree)) ∙ t in rw (yes, (root b tree).first)
-
-      violations_none : is_false r.truth ≡ false → violations value (tree_at b 0) ≡ []
-      unfolding violations_with
-      violations_none t = let no : is_false (truth value (tree_at b 0)) ≡ false = sym (ap is_false (j.is ∙ root_truth value b tree)) ∙ t in rw no
-
-      bytes_are : is_false r.truth ≡ true → number_bytes (violations value (tree_at b 0)) ≡ numbers_at value b 0
-      unfolding numbers_at
-      bytes_are t = ap number_bytes (violations_are t)
-
-      -- nothing, unless the whole is False
-      pub violations-not : is_false r.truth ≡ false → record { result_value : Ok 0 ≡ answer_of (violations_answer b value) (length old); out_after : old ≡ written_of (violations_answer b value) old }
-      unfolding number_bytes
-      violations-not t =
-          let is = answer_is a ∙ ap (λ x. Ok (numbered x)) (violations_none t) in
-          let w = numbered [] in
-          record {
-            result_value = sym (ap (λ x. answer_of x (length old)) is ∙ answer_fits w (length old) (omega arith));
-            out_after = sym (ap (λ x. written_of x old) is ∙ written_fits w old (omega arith));
-          }
-
-      -- 14
-      pub violations_short : is_false r.truth ≡ true → length old < r.at → record { result_value : Err NoRoom ≡ answer_of (violations_answer b value) (length old); out_after : old ≡ written_of (violations_answer b value) old }
-      violations_short t l =
-          let w = numbered (violations value (tree_at b 0)) in
-          let short : length old < length (number_bytes (violations value (tree_at b 0))) = omega (arith, l, j.written.ends, ap length (bytes_are t)) in
-          record {
-            result_value = sym (ap (λ x. answer_of x (length old)) (answer_is a) ∙ answer_short w (length old) short);
-            out_after = sym (ap (λ x. written_of x old) (answer_is a) ∙ written_short w old short);
-          }
-
-      -- their count, and their numbers
-      pub violations_done : {new : List ℕ} {q : ℕ} → is_false r.truth ≡ true → r.at ≤ length old → Appended (take r.at list) 0 old new q
-          → record { result_value : Ok (r.at / 2) ≡ answer_of (violations_answer b value) (length old); out_after : new ≡ written_of (violations_answer b value) old }
-      violations_done {new} {q} t l p =
-          let ns = violations value (tree_at b 0) in
-          let w = numbered ns in
-          let fits : length (number_bytes ns) ≤ length old = omega (arith, l, j.written.ends, ap length (bytes_are t)) in
-          let half : r.at / 2 ≡ length ns = omega (arith, j.written.ends, ap length (bytes_are t), numbers_length ns) in
-          let bytes : take r.at list ≡ number_bytes ns = j.written.has ∙ sym (bytes_are t) in
-          record {
-            result_value = ap Ok half ∙ sym (ap (λ x. answer_of x (length old)) (answer_is a) ∙ answer_fits w (length old) fits);
-            out_after = whole (same bytes p) ∙ sym (ap (λ x. written_of x old) (answer_is a) ∙ written_fits w old fits);
-          }
+    -- the violations
+    pub violations_done : ((r : Outcome ℕ) → admitted value_limit value r ≡ r) → list_outcome value (tree_at b 0) ≡ violations_answer b value
+    unfolding violations_answer then
+    violations_done a = rw (root b tree).is (sym (a (list_outcome value (tree_at b 0))))
 
 module _ (b answers value : List ℕ) where
   -- 15

@@ -1,16 +1,18 @@
-// Whether a value is right by the Format and Zeitpunkt conditions of a tree, and which of them it violates.
+// Whether a value is right by the Format and Zeitpunkt conditions of a tree, and which citations are to blame if it is not.
 
 #![tactic(auto)]
 
-ghost use Rattle.std.specs.Prelude.{◌≡◌, ◌+◌, ◌≤◌, ◌<◌, length};
+ghost use Rattle.std.specs.Prelude.{◌≡◌, ◌+◌, ◌*◌, ◌≤◌, ◌<◌, length};
 ghost use Rattle.grammar.specs.Bytes.{nodes, cites, tree_at};
+ghost use Rattle.grammar.specs.Kinds.{node_kind};
+ghost use Rattle.grammar.specs.declared.NodeKind.TheVariants.{Citation};
 ghost use Rattle.grammar.specs.Outcome.{answer_of, written_of};
 ghost use Rattle.semantics.specs.Truth.{cited_truth};
 ghost use Rattle.semantics.specs.Truth as format;
-ghost use Rattle.semantics.specs.Answers.{truth_answer, violations_answer, eval_and_truth_answer};
-ghost use Rattle.tree.specs.Walk.{text_at};
+ghost use Rattle.semantics.specs.Answers.{truth_answer, list_outcome, violations_answer, eval_and_truth_answer};
+ghost use Rattle.tree.specs.Walk.{first_at};
 ghost use Rattle.verdicts.specs.Tallies.{rule_of};
-ghost use Rattle.verdicts.specs.Judged.{cited_numbers, CitedJudged, RowJudged, numbers_at};
+ghost use Rattle.verdicts.specs.Judged.{Room, CitesJudged, CitedJudged, RowJudged, TreeJudged};
 
 use citation::{ConditionKind, Truth};
 use fields::{put_text, put16};
@@ -18,12 +20,18 @@ use formats::verdict_on;
 use grammar::NodeKind;
 use presence::{Tally, answers_fit, eval_tree};
 use refusal::Refusal;
-use tree::Tree;
+use tree::{CITATION_LIMIT, Tree};
 
 // The bytes that the numbers of all citations of a tree take up.
 pub const LIST_SIZE: usize = 512;
 
-// A row's truth, and the place after the numbers of its violated citations.
+// So many citations are few.
+const FEW: usize = 16;
+
+// The bytes that the numbers of few citations take up.
+const FEW_SIZE: usize = 32;
+
+// A row's truth, and the place after the numbers of its violations.
 #[derive(Clone, Copy)]
 struct Judged {
     pub truth: Truth,
@@ -51,13 +59,24 @@ fn cited_truth(text: &[u8], value: &[u8]) -> Truth
     }
 }
 
-// The truth of the citation `n`, and its number in the list if it is violated. List and place are parameters of their own, as buffer
-// and place in crate fields.
-fn judge_cited(tree: Tree, value: &[u8], n: usize, list: &mut [u8], at: usize) -> Judged
-    requires { (n < cites tree.bytes.now) × (n < 65536) × (at + length (cited_numbers value.now n (text_at tree.bytes.now n)) ≤ length list.old) }
-    ensures { CitedJudged value.now n (text_at tree.entry.bytes.now n) at list.old list.new result }
+// Judges each citation once: what it counts as. A call of its own, since its code would else stand in each of the functions that have a scratch.
+#[inline(never)]
+fn judge_cites(tree: Tree, value: &[u8], truths: &mut [Truth])
+    requires { cites tree.bytes.now ≤ length truths.old }
+    ensures { CitesJudged value.now tree.entry.bytes.now (cites tree.entry.bytes.now) truths.new }
 {
-    let truth = cited_truth(tree.text_at(n), value);
+    for n in 0..tree.cite_count() {
+        truths[n] = cited_truth(tree.text_at(n), value);
+    }
+}
+
+// The truth of the citation `n`, and its number in the list if it is False. List and place are parameters of their own, as buffer
+// and place in crate fields.
+fn judge_cited(truths: &[Truth], n: usize, list: &mut [u8], at: usize) -> Judged
+    requires { (n < length truths.now) × (n < 65536) × (at + 2 ≤ length list.old) }
+    ensures { CitedJudged truths.now n at list.old list.new result }
+{
+    let truth = truths[n];
     if truth == Truth::False {
         let next = put16(list, at, n);
         return Judged { truth, at: next };
@@ -65,34 +84,65 @@ fn judge_cited(tree: Tree, value: &[u8], n: usize, list: &mut [u8], at: usize) -
     Judged { truth, at }
 }
 
-// The truth of the subtree at a row, and the numbers of its violated citations in the list.
-fn judge_row(tree: Tree, value: &[u8], row: usize, list: &mut [u8], at: usize) -> Judged
-    requires { (row < nodes tree.bytes.now) × (at + length (numbers_at value.now tree.bytes.now row) ≤ length list.old) }
-    ensures { RowJudged value.now tree.entry.bytes.now row at list.old list.new result }
+// The truth of the node at a row that is no citation's, and the numbers of its violations in the list: what a node that is not False
+// has listed is taken back. Its citations are looked up without a call of this function.
+fn judge_node(tree: Tree, truths: &[Truth], row: usize, list: &mut [u8], from: usize) -> Judged
+    requires { (row < nodes tree.bytes.now) × Room tree.bytes.now (length truths.now) (length list.old) × (from ≤ 2 * first_at tree.bytes.now row) × ¬ (node_kind (tree_at tree.bytes.now row) ≡ Citation) }
+    ensures { RowJudged truths.now tree.entry.bytes.now row from list.old list.new result }
 {
     let kind = tree.kind_at(row);
-    if kind == NodeKind::Citation {
-        return judge_cited(tree, value, tree.number_at(row), list, at);
-    }
     let mut tally = Tally::new();
-    let mut w = at;
+    let mut at = from;
     for child in tree.children(row) {
-        let here = judge_row(tree, value, child, list, w);
+        if tree.kind_at(child) == NodeKind::Citation {
+            let cited = judge_cited(truths, tree.number_at(child), list, at);
+            tally = tally.add(cited.truth);
+            at = cited.at;
+            continue;
+        }
+        let here = judge_node(tree, truths, child, list, at);
         tally = tally.add(here.truth);
-        w = here.at;
+        at = here.at;
     }
-    Judged {
-        truth: node_truth(tally, kind),
-        at: w,
+    let truth = node_truth(tally, kind);
+    if truth == Truth::False {
+        return Judged { truth, at };
     }
+    Judged { truth, at: from }
 }
 
-// The format truth of a tree.
+// The truth of the subtree at a row, and the numbers of its violations in the list.
+fn judge_row(tree: Tree, truths: &[Truth], row: usize, list: &mut [u8], from: usize) -> Judged
+    requires { (row < nodes tree.bytes.now) × Room tree.bytes.now (length truths.now) (length list.old) × (from ≤ 2 * first_at tree.bytes.now row) }
+    ensures { RowJudged truths.now tree.entry.bytes.now row from list.old list.new result }
+{
+    if tree.kind_at(row) == NodeKind::Citation {
+        return judge_cited(truths, tree.number_at(row), list, from);
+    }
+    judge_node(tree, truths, row, list, from)
+}
+
+// The format truth of a tree, and the numbers of its violations in the list, by what its citations count as.
+fn judge_tree(tree: Tree, value: &[u8], truths: &mut [Truth], list: &mut [u8]) -> Judged
+    requires { Room tree.bytes.now (length truths.old) (length list.old) }
+    ensures { TreeJudged value.now tree.entry.bytes.now list.old list.new result }
+{
+    judge_cites(tree, value, truths);
+    judge_row(tree, truths, 0, list, 0)
+}
+
+// The format truth of a tree. What is kept of few citations stands in a scratch that is small.
 fn truth_of(tree: Tree, value: &[u8]) -> Truth
     ensures { result ≡ format.truth value.now (tree_at tree.entry.bytes.now 0) }
 {
+    if tree.cite_count() <= FEW {
+        let mut truths = [Truth::False; FEW];
+        let mut list = [0u8; FEW_SIZE];
+        return judge_tree(tree, value, &mut truths, &mut list).truth;
+    }
+    let mut truths = [Truth::False; CITATION_LIMIT];
     let mut list = [0u8; LIST_SIZE];
-    judge_row(tree, value, 0, &mut list, 0).truth
+    judge_tree(tree, value, &mut truths, &mut list).truth
 }
 
 // The format truth of a tree for a value.
@@ -104,23 +154,49 @@ pub fn truth(tree: &[u8], value: &[u8]) -> Result<Truth, Refusal>
     Ok(truth_of(tree, value))
 }
 
-// The numbers of the violated citations, if the format truth is False.
+// The numbers of the violations of a tree. They are listed in a scratch, since more may be listed for a time than stands there in the end.
+fn list_tree(
+    tree: Tree,
+    value: &[u8],
+    truths: &mut [Truth],
+    list: &mut [u8],
+    out: &mut [u8],
+) -> Result<usize, Refusal>
+    requires { Room tree.bytes.now (length truths.old) (length list.old) }
+    ensures result_value { result ≡ answer_of (list_outcome value.now (tree_at tree.entry.bytes.now 0)) (length out.old) }
+    ensures out_after { out.new ≡ written_of (list_outcome value.now (tree_at tree.entry.bytes.now 0)) out.old }
+{
+    let end = judge_tree(tree, value, truths, list).at;
+    if out.len() < end {
+        return Err(Refusal::NoRoom);
+    }
+    put_text(&list[..end], out, 0);
+    Ok(end / 2)
+}
+
+// The same, with a scratch of its own, which is small for few citations.
+fn list_of(tree: Tree, value: &[u8], out: &mut [u8]) -> Result<usize, Refusal>
+    ensures result_value { result ≡ answer_of (list_outcome value.now (tree_at tree.entry.bytes.now 0)) (length out.old) }
+    ensures out_after { out.new ≡ written_of (list_outcome value.now (tree_at tree.entry.bytes.now 0)) out.old }
+{
+    if tree.cite_count() <= FEW {
+        let mut truths = [Truth::False; FEW];
+        let mut list = [0u8; FEW_SIZE];
+        return list_tree(tree, value, &mut truths, &mut list, out);
+    }
+    let mut truths = [Truth::False; CITATION_LIMIT];
+    let mut list = [0u8; LIST_SIZE];
+    list_tree(tree, value, &mut truths, &mut list, out)
+}
+
+// The numbers of the violations of a tree: of each violated citation, if the whole and every group around it are False.
 pub fn violations(tree: &[u8], value: &[u8], out: &mut [u8]) -> Result<usize, Refusal>
     ensures result_value { result ≡ answer_of (violations_answer tree.now value.now) (length out.old) }
     ensures out_after { out.new ≡ written_of (violations_answer tree.now value.now) out.old }
 {
     let tree = Tree::new(tree)?;
     utf8::admit(value, utf8::VALUE_LIMIT)?;
-    let mut list = [0u8; LIST_SIZE];
-    let judged = judge_row(tree, value, 0, &mut list, 0);
-    if judged.truth != Truth::False {
-        return Ok(0);
-    }
-    if out.len() < judged.at {
-        return Err(Refusal::NoRoom);
-    }
-    put_text(&list[..judged.at], out, 0);
-    Ok(judged.at / 2)
+    list_of(tree, value, out)
 }
 
 // The presence and the format truth of a tree: 15, 16, the value's 10 and 11, then 7 and 8 as met.

@@ -1,11 +1,9 @@
-use mathlib.Core.Path.{◌∙◌}
 use native.Mathlib.Omega.{arith}
-use Rattle.tree.proofs.Walks.{root}
-use Rattle.verdicts.proofs.Laws.{list_room, root_truth}
+use Rattle.verdicts.proofs.Laws.{cites_most}
 use Rattle.verdicts.proofs.truth_of.Goals as goal
 
-pub judge_row-requires : goal.judge_row-requires
-judge_row-requires c = let t = c.args.tree.tested in ((root _ t).some, omega (arith, list_room c.args.value.now c.args.tree.bytes.now t))
+pub judge_tree-requires : goal.judge_tree-requires
+judge_tree-requires c = record { truths = omega arith; numbers = omega arith }
 
-pub returns : goal.returns
-returns c = c.judge_row.ensures.is ∙ root_truth c.args.value.now c.args.tree.bytes.now c.args.tree.tested
+pub judge_tree-requires-2 : goal.judge_tree-requires-2
+judge_tree-requires-2 c = let f = cites_most _ c.args.tree.tested in record { truths = omega (arith, f); numbers = omega (arith, f) }
