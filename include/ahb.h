@@ -130,8 +130,8 @@ static inline uint64_t ahb_format_truth(const uint8_t *tree, size_t tree_length,
                         AHB_VERDICT_TRUTH, &none, 0);
 }
 
-/* The violations of a tree for a value: the violated citations for which the whole and every group around them are
- * False. Their numbers are written to the beginning of list. */
+/* The violations of a tree for a value: the citations that it violates, but for those in a group that is True or
+ * Unknown. Their numbers are written to the beginning of list. */
 static inline uint64_t ahb_format_violations(const uint8_t *tree, size_t tree_length, const uint8_t *value,
                                              size_t value_length, uint8_t *list, size_t list_length) {
     uint8_t none = 0;

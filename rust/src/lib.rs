@@ -249,8 +249,8 @@ pub fn truth(tree: &[u8], value: &[u8]) -> Result<Truth, Refusal> {
     verdicts(tree, value, FIRST_MODE, &mut []).map(|said| Truth::ALL[said])
 }
 
-/// How many violations a tree has for a value: violated citations for which the whole and every group around them are False. Their numbers begin
-/// `list`, 2 bytes each, the low one first.
+/// How many violations a tree has for a value: the citations that it violates, but for those in a group that is True or
+/// Unknown. Their numbers begin `list`, 2 bytes each, the low one first.
 pub fn violations(tree: &[u8], value: &[u8], list: &mut [u8]) -> Result<usize, Refusal> {
     verdicts(tree, value, SECOND_MODE, list)
 }

@@ -15,7 +15,6 @@ use Rattle.grammar.proofs.Theorems.{bytes-length, few_bytes}
 use Rattle.grammar.specs.Outcome.{Written, Outcome, answer_of, StatusSaid, stated_bytes, parse_answer, status_answer}
 use Rattle.grammar.proofs.Known.{admitted-among, reading_known, status_known, tree_of_known}
 use Rattle.semantics.specs.Truth.{counts_on}
-use Rattle.semantics.specs.Violations.{violations}
 use Rattle.semantics.proofs.Sizes.{violations_fit}
 use Rattle.semantics.specs.Answers.{list_outcome, violations_answer}
 use Rattle.tree.proofs.Walks.{root}
@@ -74,9 +73,6 @@ status_among s n = answer_among ShortStatus (status_answer s) n (status_outcome_
 abbrev pub Few : ℕ → Type 0
 Few n = n ≤ citation_limit
 
-violations-few : (value : List ℕ) (e : Expr) → Fits e → Few (length (violations value e))
-violations-few value = violations_fit (counts_on value)
-
 -- a tree is that of an expression that fits the limits
 pub tree_fits : (b : List ℕ) (e : Expr) → tree_of b ≡ Ok e → Fits e
 unfolding tree_of
@@ -99,7 +95,7 @@ unfolding violations_answer
 violations-outcome b value = then-among CountFew (tree_of b) (judged_by value) (known_among (λ e. Among CountFew (judged_by value e)) (tree_of b) (tree_of_known b) by)
   where
     by : (e : Expr) → tree_of b ≡ Ok e → Among CountFew (judged_by value e)
-    by e h = admitted-among CountFew value_limit value (list_outcome value e) (violations-few value e (tree_fits b e h))
+    by e h = admitted-among CountFew value_limit value (list_outcome value e) (violations_fit (counts_on value) e (tree_fits b e h))
 
 -- as it is answered
 pub violations-among : (b value : List ℕ) (n : ℕ) → Among Few (answer_of (violations_answer b value) n)

@@ -132,7 +132,7 @@ module _ (c : Counts) (ns : List ℕ) where
         (raises n e (λ k m. h k (Memᴰ.append_left (violations_of c (n + count e) es) m)))
         (raises_of o (n + count e) es (λ k m. h k (Memᴰ.append_right (violations_with c n e) m)))
 
--- if every listed citation counted as True, and every other as it does, the expression would not be False
+-- with every listed citation counted as True, and every other as it is, the expression is not False
 pub held_not_false : (c : Counts) (e : Expr) → fails (with_held (violations_with c 0 e) c) 0 e ≡ false
 held_not_false c e = let ns = violations_with c 0 e in not-true (fails (with_held ns c) 0 e) (raises c ns 0 e (λ k m. m))
 

@@ -84,9 +84,9 @@ pub record ListPromised (value : List ℕ) (e : Expr) : Type 0 where
   pub some : is_false (truth value e) ≡ true → 0 < length (violations value e)
   -- and else there is none
   pub none : is_false (truth value e) ≡ false → violations value e ≡ []
-  -- if they held and the others counted as they do, the format truth would not be False
+  -- with these counted as True, and the others as they are, the format truth is not False
   pub held : fails (with_held (violations value e) (counts_on value)) 0 e ≡ false
-  -- nor would it if the others counted higher
+  -- nor is it with the others counted as they are or higher
   pub raised : (d : Counts) → Raised (counts_on value) d e → fails d 0 e ≡ false
-  -- a number is among them exactly if its citation is violated, and the whole and every group around it are False
+  -- a number is among them exactly if a citation has it, its text is violated, and no node around it is other than False
   pub exactly : (k : ℕ) → Memᴰ k (violations value e) ↔ (StandsIn k 0 e × FalseAround value k 0 e)

@@ -84,8 +84,8 @@ fn judge_cited(truths: &[Truth], n: usize, list: &mut [u8], at: usize) -> Judged
     Judged { truth, at }
 }
 
-// The truth of the node at a row that is no citation's, and the numbers of its violations in the list: what a node that is not False
-// has listed is taken back. Its citations are looked up without a call of this function.
+// The truth of the node at a row that is no citation's, and the numbers of its violations in the list, which ends where it began if the
+// node is not False. Its citations are looked up without a call of this function.
 fn judge_node(tree: Tree, truths: &[Truth], row: usize, list: &mut [u8], from: usize) -> Judged
     requires { (row < nodes tree.bytes.now) × Room tree.bytes.now (length truths.now) (length list.old) × (from ≤ 2 * first_at tree.bytes.now row) × ¬ (node_kind (tree_at tree.bytes.now row) ≡ Citation) }
     ensures { RowJudged truths.now tree.entry.bytes.now row from list.old list.new result }
@@ -189,7 +189,7 @@ fn list_of(tree: Tree, value: &[u8], out: &mut [u8]) -> Result<usize, Refusal>
     list_tree(tree, value, &mut truths, &mut list, out)
 }
 
-// The numbers of the violations of a tree: of each violated citation, if the whole and every group around it are False.
+// How many violations a tree has for a value; their numbers then begin the lent bytes.
 pub fn violations(tree: &[u8], value: &[u8], out: &mut [u8]) -> Result<usize, Refusal>
     ensures result_value { result ≡ answer_of (violations_answer tree.now value.now) (length out.old) }
     ensures out_after { out.new ≡ written_of (violations_answer tree.now value.now) out.old }
