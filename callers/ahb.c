@@ -54,23 +54,14 @@ static uint32_t eval(const char *name, const uint8_t *tree, size_t length, const
     return answer;
 }
 
-static uint64_t truth(const char *name, const uint8_t *tree, size_t length, const uint8_t *value, size_t size) {
-    uint64_t answer = ahb_format_truth(tree, length, value, size);
-    if (ahb_is_accepted(answer))
-        printf("%s: %s\n", name, truths[ahb_truth_of(answer)]);
-    else
-        printf("%s: refused %u\n", name, (unsigned)answer);
-    return answer;
-}
-
-static uint64_t violations(const char *name, const uint8_t *tree, size_t length, const uint8_t *value, size_t size,
-                           size_t room) {
+static uint64_t verdicts(const char *name, const uint8_t *tree, size_t length, const uint8_t *value, size_t size,
+                         size_t room) {
     memset(list, PATTERN, sizeof list);
-    uint64_t answer = ahb_format_violations(tree, length, value, size, room == 0 ? NULL : list, room);
+    uint64_t answer = ahb_format_verdicts(tree, length, value, size, room == 0 ? NULL : list, room);
     if (ahb_is_accepted(answer)) {
         assert(2 * ahb_count_of(answer) <= room);
         kept(list, 2 * ahb_count_of(answer), sizeof list);
-        printf("%s: %zu", name, ahb_count_of(answer));
+        printf("%s: %s, %zu", name, truths[ahb_truth_of(answer)], ahb_count_of(answer));
         for (size_t i = 0; i < ahb_count_of(answer); i++)
             printf(" %u", ahb_violation_at(list, i));
         printf("\n");
@@ -79,6 +70,11 @@ static uint64_t violations(const char *name, const uint8_t *tree, size_t length,
         printf("%s: refused %u\n", name, (unsigned)answer);
     }
     return answer;
+}
+
+/* An accepted answer of ahb_verdicts. */
+static uint64_t judged(enum ahb_truth truth, unsigned count) {
+    return AHB_ACCEPTED + 65536 * (uint64_t)truth + count;
 }
 
 static void reading(void) {
@@ -138,29 +134,15 @@ static void judging(void) {
     assert(eval("NULL tree", NULL, 0, NULL, 0) == AHB_NOT_A_TREE);
 
     memset(value, '0', sizeof value);
-    assert(truth("truth of 0", tree, n, bytes_of("0"), 1) == AHB_ACCEPTED + AHB_FALSE);
-    assert(truth("truth of 1", tree, n, bytes_of("1"), 1) == AHB_ACCEPTED + AHB_TRUE);
-    assert(truth("truth of nothing", tree, n, NULL, 0) == AHB_ACCEPTED + AHB_FALSE);
-    assert(truth("truth of 1,024 zeros", tree, n, value, AHB_VALUE_LIMIT) == AHB_ACCEPTED + AHB_FALSE);
-    assert(truth("truth of 1,025 zeros", tree, n, value, AHB_VALUE_LIMIT + 1) == AHB_TOO_LONG);
-    assert(truth("truth of no UTF-8", tree, n, not_utf8, 1) == AHB_NOT_UTF8);
-    assert(truth("truth without a tree", NULL, 0, NULL, 0) == AHB_NOT_A_TREE);
-
-    /* By mode 0 the list is not looked at, by any other it is. */
-    memset(list, PATTERN, sizeof list);
-    assert(ahb_verdicts(tree, n, bytes_of("0"), 1, 0, list, 4) == AHB_ACCEPTED + AHB_FALSE);
-    kept(list, 0, sizeof list);
-    assert(ahb_verdicts(tree, n, bytes_of("0"), 1, 255, list, 4) == AHB_ACCEPTED + 1);
-    kept(list, 2, sizeof list);
-
-    assert(violations("violations of 0", tree, n, bytes_of("0"), 1, 2) == AHB_ACCEPTED + 1);
-    assert(violations("violations of 0, one short", tree, n, bytes_of("0"), 1, 1) == AHB_NO_ROOM);
-    assert(violations("violations of 0, no room", tree, n, bytes_of("0"), 1, 0) == AHB_NO_ROOM);
-    assert(violations("violations of 1, no room", tree, n, bytes_of("1"), 1, 0) == AHB_ACCEPTED);
-    assert(violations("violations of nothing", tree, n, NULL, 0, AHB_VIOLATIONS_SIZE) == AHB_ACCEPTED + 3);
-    assert(violations("violations of 1,025 zeros", tree, n, value, AHB_VALUE_LIMIT + 1, 4) == AHB_TOO_LONG);
-    assert(violations("violations of no UTF-8", tree, n, not_utf8, 1, 4) == AHB_NOT_UTF8);
-    assert(violations("violations without a tree", NULL, 0, NULL, 0, 0) == AHB_NOT_A_TREE);
+    assert(verdicts("verdicts on 0", tree, n, bytes_of("0"), 1, 2) == judged(AHB_FALSE, 1));
+    assert(verdicts("verdicts on 0, one short", tree, n, bytes_of("0"), 1, 1) == AHB_NO_ROOM);
+    assert(verdicts("verdicts on 0, no room", tree, n, bytes_of("0"), 1, 0) == AHB_NO_ROOM);
+    assert(verdicts("verdicts on 1, no room", tree, n, bytes_of("1"), 1, 0) == judged(AHB_TRUE, 0));
+    assert(verdicts("verdicts on nothing", tree, n, NULL, 0, AHB_VIOLATIONS_SIZE) == judged(AHB_FALSE, 3));
+    assert(verdicts("verdicts on 1,024 zeros", tree, n, value, AHB_VALUE_LIMIT, 3) == judged(AHB_FALSE, 1));
+    assert(verdicts("verdicts on 1,025 zeros", tree, n, value, AHB_VALUE_LIMIT + 1, 4) == AHB_TOO_LONG);
+    assert(verdicts("verdicts on no UTF-8", tree, n, not_utf8, 1, 4) == AHB_NOT_UTF8);
+    assert(verdicts("verdicts without a tree", NULL, 0, NULL, 0, 0) == AHB_NOT_A_TREE);
 }
 
 static void choosing(void) {
@@ -171,7 +153,7 @@ static void choosing(void) {
     assert(eval("mixed choice", out, ahb_length_of(answer), answers, 2) == AHB_CHOICE_OVER_NEUTRAL);
     answer = read_bytes("unregistered", AHB_READ_EXPRESSION, bytes_of(unregistered), 5, AHB_TREE_SIZE);
     assert(eval("unknown", out, ahb_length_of(answer), unknown, 1) == AHB_PRESENT + AHB_UNKNOWN);
-    assert(truth("truth unknown", out, ahb_length_of(answer), NULL, 0) == AHB_ACCEPTED + AHB_UNKNOWN);
+    assert(verdicts("verdicts unknown", out, ahb_length_of(answer), NULL, 0, 0) == judged(AHB_UNKNOWN, 0));
     answer = read_bytes("hint", AHB_READ_EXPRESSION, bytes_of(hint), 5, AHB_TREE_SIZE);
     assert(eval("neutral", out, ahb_length_of(answer), neutral, 1) == AHB_PRESENT + AHB_NEUTRAL);
 }
@@ -203,8 +185,8 @@ static void largest(void) {
     n = ahb_length_of(read_bytes("256 times [902]", AHB_READ_EXPRESSION, bytes_of(text), 5 * AHB_CITATION_LIMIT,
                                  AHB_TREE_SIZE));
     memcpy(tree, out, n);
-    assert(violations("all violated", tree, n, NULL, 0, AHB_VIOLATIONS_SIZE) == AHB_ACCEPTED + AHB_CITATION_LIMIT);
-    assert(violations("all violated, one short", tree, n, NULL, 0, AHB_VIOLATIONS_SIZE - 1) == AHB_NO_ROOM);
+    assert(verdicts("all violated", tree, n, NULL, 0, AHB_VIOLATIONS_SIZE) == judged(AHB_FALSE, AHB_CITATION_LIMIT));
+    assert(verdicts("all violated, one short", tree, n, NULL, 0, AHB_VIOLATIONS_SIZE - 1) == AHB_NO_ROOM);
 }
 
 int main(void) {

@@ -74,11 +74,9 @@ enum ahb_truth {
 /* The answer byte of a citation whose evaluation failed; the others are those of enum ahb_truth. */
 #define AHB_FAILED 4
 
-/* The modes of ahb_read and of ahb_verdicts; any mode but 0 means 1. */
+/* The modes of ahb_read; any mode but 0 means 1. */
 #define AHB_READ_EXPRESSION 0
 #define AHB_READ_STATUS 1
-#define AHB_VERDICT_TRUTH 0
-#define AHB_VERDICT_VIOLATIONS 1
 
 /* The least accepted answers. */
 #define AHB_ACCEPTED UINT64_C(4294967296)
@@ -88,7 +86,7 @@ enum ahb_truth {
 uint64_t ahb_read(const uint8_t *text, size_t text_length, uint8_t mode, uint8_t *out, size_t out_length);
 uint32_t ahb_presence(const uint8_t *tree, size_t tree_length, const uint8_t *answers, size_t answers_length);
 uint64_t ahb_verdicts(const uint8_t *tree, size_t tree_length, const uint8_t *value, size_t value_length,
-                      uint8_t mode, uint8_t *list, size_t list_length);
+                      uint8_t *list, size_t list_length);
 
 /* A pointer that may be handed on with a length: an empty byte string needs no memory, but an address. */
 static inline const uint8_t *ahb_lent(const uint8_t *bytes, size_t length) {
@@ -122,21 +120,14 @@ static inline uint32_t ahb_eval(const uint8_t *tree, size_t tree_length, const u
     return ahb_presence(ahb_lent(tree, tree_length), tree_length, ahb_lent(answers, answers_length), answers_length);
 }
 
-/* The format truth of a tree for a value. */
-static inline uint64_t ahb_format_truth(const uint8_t *tree, size_t tree_length, const uint8_t *value,
-                                        size_t value_length) {
+/* The format truth of a tree for a value, and its violations: the citations that it violates, but for those in a group
+ * that is True or Unknown. Their numbers are written to the beginning of list; of a list that is too short for them
+ * AHB_NO_ROOM is all that is said. */
+static inline uint64_t ahb_format_verdicts(const uint8_t *tree, size_t tree_length, const uint8_t *value,
+                                           size_t value_length, uint8_t *list, size_t list_length) {
     uint8_t none = 0;
     return ahb_verdicts(ahb_lent(tree, tree_length), tree_length, ahb_lent(value, value_length), value_length,
-                        AHB_VERDICT_TRUTH, &none, 0);
-}
-
-/* The violations of a tree for a value: the citations that it violates, but for those in a group that is True or
- * Unknown. Their numbers are written to the beginning of list. */
-static inline uint64_t ahb_format_violations(const uint8_t *tree, size_t tree_length, const uint8_t *value,
-                                             size_t value_length, uint8_t *list, size_t list_length) {
-    uint8_t none = 0;
-    return ahb_verdicts(ahb_lent(tree, tree_length), tree_length, ahb_lent(value, value_length), value_length,
-                        AHB_VERDICT_VIOLATIONS, ahb_lent_mut(list, list_length, &none), list_length);
+                        ahb_lent_mut(list, list_length, &none), list_length);
 }
 
 /* Whether an answer of ahb_read or ahb_verdicts is accepted; if not, it is an enum ahb_refusal. */
@@ -148,9 +139,11 @@ static inline enum ahb_kind ahb_kind_of(uint64_t answer) {
 }
 static inline size_t ahb_length_of(uint64_t answer) { return (size_t)(answer & 0xFFFF); }
 
-/* Of an accepted answer of ahb_verdicts: the format truth by mode 0, else the count of violations. */
-static inline enum ahb_truth ahb_truth_of(uint64_t answer) { return (enum ahb_truth)(answer - AHB_ACCEPTED); }
-static inline size_t ahb_count_of(uint64_t answer) { return (size_t)(answer - AHB_ACCEPTED); }
+/* Of an accepted answer of ahb_verdicts: the format truth, and the count of violations. */
+static inline enum ahb_truth ahb_truth_of(uint64_t answer) {
+    return (enum ahb_truth)((answer - AHB_ACCEPTED) >> 16);
+}
+static inline size_t ahb_count_of(uint64_t answer) { return (size_t)(answer & 0xFFFF); }
 
 /* Whether an answer of ahb_presence is accepted; if not, it is an enum ahb_refusal. */
 static inline int ahb_is_present(uint32_t answer) { return answer >= AHB_PRESENT; }

@@ -17,8 +17,11 @@ pub struct Rule {
     /// Whether it takes out this request; a lent buffer is the last field.
     pub covers: fn(Function, &[&[u8]]) -> bool,
     /// What still holds between the model's answer and the original's, if anything does.
-    pub still: Option<fn(&Answer, &Answer) -> bool>,
+    pub still: Option<Still>,
 }
+
+/// What is held of the model's answer and the original's.
+pub type Still = fn(&Answer, &Answer) -> bool;
 
 /// From a request to the answer of a model that has one.
 pub type Model = fn(Function, &[&[u8]]) -> Option<Answer>;
@@ -30,39 +33,48 @@ pub struct Asked {
     pub model: Model,
 }
 
-/// What the model answers in the original's place; the first rule that covers a request counts. Of UB1, UB2 and UB3 on a value that
-/// is not in full form the original asks less.
-const RULES: [Rule; 9] = [
+/// What the model answers in the original's place; the first rule that covers a request counts. The original asks less of UB1,
+/// UB2 and UB3 on a value that is not in full form, which may raise a truth and shorten a list; it has 900 among the Format
+/// numbers, which may make a True Unknown; and in a choice below the root that is not False it lists what the other branches
+/// violate.
+const RULES: [Rule; 10] = [
     Rule { reason: "UB1 to UB3 on a value not in full form", covers: boundary_alone, still: Some(was_held) },
     Rule {
-        reason: "format truth where UB1 to UB3 meet a value not in full form, and 900 is cited",
-        covers: |function, fields| boundary_truth(function, fields) && tree_cites_900(fields[0]),
-        still: Some(stays_false),
+        reason: "verdicts where UB1 to UB3 meet a value not in full form, with 900 and a choice below the root",
+        covers: |function, fields| boundary_with_900(function, fields) && choice_below_root(fields[0]),
+        still: Some(|model, original| both(model, original, stays_false, one_in_both)),
     },
     Rule {
-        reason: "format truth where UB1 to UB3 meet a value not in full form",
-        covers: boundary_truth,
-        still: Some(was_higher),
+        reason: "verdicts where UB1 to UB3 meet a value not in full form, with a choice below the root",
+        covers: |function, fields| boundary_verdicts(function, fields) && choice_below_root(fields[0]),
+        still: Some(|model, original| both(model, original, was_higher, one_in_both)),
     },
     Rule {
-        reason: "violations where UB1 to UB3 meet a value not in full form, and a choice is below the root",
-        covers: |function, fields| boundary_violations(function, fields) && choice_below_root(fields[0]),
-        still: Some(one_in_both),
+        reason: "verdicts where UB1 to UB3 meet a value not in full form, with 900",
+        covers: boundary_with_900,
+        still: Some(|model, original| both(model, original, stays_false, listed_more)),
     },
     Rule {
-        reason: "violations where UB1 to UB3 meet a value not in full form",
-        covers: boundary_violations,
-        still: Some(listed_more),
+        reason: "verdicts where UB1 to UB3 meet a value not in full form",
+        covers: boundary_verdicts,
+        still: Some(|model, original| both(model, original, was_higher, listed_more)),
     },
-    // A choice below the root that is not False: there the original lists what its other branches violate.
     Rule {
-        reason: "violations where a choice is below the root",
-        covers: violations_below_choice,
-        still: Some(listed_less),
+        reason: "verdicts where a choice is below the root, with 900",
+        covers: |function, fields| tree_cites_900(fields[0]) && choice_verdicts(function, fields),
+        still: Some(|model, original| both(model, original, was_unknown, listed_less)),
     },
-    // What cites a number equal to 900 is the model's: the original has 900 among the Format numbers.
+    Rule {
+        reason: "verdicts where a choice is below the root",
+        covers: choice_verdicts,
+        still: Some(|model, original| both(model, original, same_truth, listed_less)),
+    },
+    Rule {
+        reason: "verdicts where 900 is cited",
+        covers: verdicts_with_900,
+        still: Some(|model, original| both(model, original, was_unknown, same_list)),
+    },
     Rule { reason: "the kind of a number equal to 900", covers: kind_of_900, still: Some(was_format) },
-    Rule { reason: "format truth where 900 is cited", covers: truth_with_900, still: Some(was_unknown) },
     Rule {
         reason: "all else that cites 900",
         covers: else_with_900,
@@ -76,20 +88,20 @@ fn boundary_alone(function: Function, fields: &[&[u8]]) -> bool {
     function == Function::Evaluate && is_boundary(fields[0]) && is_other_form(fields[1])
 }
 
-fn boundary_truth(function: Function, fields: &[&[u8]]) -> bool {
-    function == Function::Truth && boundary_in_tree(fields[0], fields[1])
+fn boundary_verdicts(function: Function, fields: &[&[u8]]) -> bool {
+    function == Function::Verdicts && boundary_in_tree(fields[0], fields[1])
 }
 
-fn boundary_violations(function: Function, fields: &[&[u8]]) -> bool {
-    function == Function::Violations && boundary_in_tree(fields[0], fields[1])
+fn boundary_with_900(function: Function, fields: &[&[u8]]) -> bool {
+    boundary_verdicts(function, fields) && tree_cites_900(fields[0])
 }
 
 fn boundary_in_tree(tree: &[u8], value: &[u8]) -> bool {
     is_other_form(value) && tree.windows(2).any(|two| two == b"UB") && tree_cites(tree, is_boundary)
 }
 
-fn violations_below_choice(function: Function, fields: &[&[u8]]) -> bool {
-    function == Function::Violations && choice_below_root(fields[0]) && value(fields[1]).is_ok()
+fn choice_verdicts(function: Function, fields: &[&[u8]]) -> bool {
+    function == Function::Verdicts && choice_below_root(fields[0]) && value(fields[1]).is_ok()
 }
 
 /// Whether the bytes are a tree in which a row after the first is that of an Or or a Xor.
@@ -107,20 +119,17 @@ fn kind_of_900(function: Function, fields: &[&[u8]]) -> bool {
     function == Function::Kind && is_900(fields[0])
 }
 
-fn truth_with_900(function: Function, fields: &[&[u8]]) -> bool {
-    function == Function::Truth && tree_cites_900(fields[0])
+fn verdicts_with_900(function: Function, fields: &[&[u8]]) -> bool {
+    function == Function::Verdicts && tree_cites_900(fields[0])
 }
 
 fn else_with_900(function: Function, fields: &[&[u8]]) -> bool {
     match function {
         Function::Expr => text_cites_900(fields[0], str::to_owned),
         Function::Status => text_cites_900(fields[0], |text| after_word(text).1),
-        Function::Tree
-        | Function::Print
-        | Function::Cited
-        | Function::Eval
-        | Function::Pakete
-        | Function::Violations => tree_cites_900(fields[0]),
+        Function::Tree | Function::Print | Function::Cited | Function::Eval | Function::Pakete => {
+            tree_cites_900(fields[0])
+        }
         Function::Paket | Function::Name | Function::Evaluate | Function::Registered => is_900(fields[0]),
         _ => false,
     }
@@ -155,61 +164,100 @@ fn was_format(model: &Answer, original: &Answer) -> bool {
     said(model, "6") && said(original, "2") || model.is_err() && model == original
 }
 
-/// As the original's, or True where that is Unknown.
-fn was_unknown(model: &Answer, original: &Answer) -> bool {
-    model == original || said(model, "2") && said(original, "1")
-}
-
 /// Violated, where the original has Holds or Violated.
 fn was_held(model: &Answer, original: &Answer) -> bool {
     said(model, "V") && (said(original, "H") || said(original, "V"))
 }
 
-/// False where the original's is; neither is a refusal.
-fn stays_false(model: &Answer, original: &Answer) -> bool {
-    model.is_ok() && original.is_ok() && (said(model, "0") || !said(original, "0"))
+/// What an answer to `verdicts` says.
+struct Verdicts<'a> {
+    /// 0 False, 1 Unknown, 2 True.
+    truth: usize,
+    /// None for one that is longer than the buffer.
+    list: List<'a>,
+}
+
+type List<'a> = Option<&'a [u8]>;
+
+/// The parts of an answer. A list is empty just where the truth is not False, so 14 says False; an answer of which that is
+/// untrue has no parts, and no other refusal has any.
+fn verdicts(answer: &Answer) -> Option<Verdicts<'_>> {
+    match answer {
+        Err(NO_ROOM) => Some(Verdicts { truth: 0, list: None }),
+        Err(_) => None,
+        Ok((words, list)) => {
+            let (truth, count) = words.strip_prefix("ok ")?.split_once(' ')?;
+            let fits = list.is_empty() == (truth != "0") && count == (list.len() / 2).to_string();
+            let truth = ["0", "1", "2"].into_iter().position(|number| number == truth)?;
+            fits.then_some(Verdicts { truth, list: Some(list) })
+        }
+    }
+}
+
+/// Whether something holds between the truths of two answers, and something between their lists; or both are the same refusal.
+fn both(
+    model: &Answer,
+    original: &Answer,
+    truths: fn(usize, usize) -> bool,
+    lists: fn(List, List) -> bool,
+) -> bool {
+    match (verdicts(model), verdicts(original)) {
+        (Some(model), Some(original)) => {
+            truths(model.truth, original.truth) && lists(model.list, original.list)
+        }
+        _ => model.is_err() && model == original,
+    }
+}
+
+fn same_truth(model: usize, original: usize) -> bool {
+    model == original
+}
+
+/// As the original's, or True where that is Unknown.
+fn was_unknown(model: usize, original: usize) -> bool {
+    model == original || (model, original) == (2, 1)
 }
 
 /// As the original's, or lower.
-fn was_higher(model: &Answer, original: &Answer) -> bool {
-    model == original || original.is_ok() && said(model, "0") || said(model, "1") && said(original, "2")
+fn was_higher(model: usize, original: usize) -> bool {
+    model <= original
+}
+
+/// False where the original's is.
+fn stays_false(model: usize, original: usize) -> bool {
+    model == 0 || original != 0
+}
+
+fn same_list(model: List, original: List) -> bool {
+    model == original
 }
 
 /// Whether a list has these numbers, in this order.
-fn lists(list: &[u8], numbers: &[u8]) -> bool {
+fn has(list: &[u8], numbers: &[u8]) -> bool {
     let mut listed = list.chunks(2);
     numbers.chunks(2).all(|number| listed.any(|one| one == number))
 }
 
-/// What the original lists, in its order, and maybe more; or the refusal of a buffer that is too short.
-fn listed_more(model: &Answer, original: &Answer) -> bool {
-    let (Ok((_, model)), Ok((_, original))) = (model, original) else {
-        return *model == Err(NO_ROOM);
-    };
-    lists(model, original)
-}
-
-/// A part of what the original lists, in its order, and empty only where that is; the refusal of a buffer that is too
-/// short only where the original's is the same.
-fn listed_less(model: &Answer, original: &Answer) -> bool {
+/// What the original lists, in its order, and maybe more; so it is longer than the buffer where the original's is.
+fn listed_more(model: List, original: List) -> bool {
     match (model, original) {
-        (Ok((_, model)), Ok((_, original))) => {
-            lists(original, model) && model.is_empty() == original.is_empty()
-        }
-        (Ok((_, model)), Err(NO_ROOM)) => !model.is_empty(),
-        _ => model == original,
+        (Some(model), Some(original)) => has(model, original),
+        (model, _) => model.is_none(),
     }
 }
 
-/// A number that the original lists too, if it lists any, since what is False for the original is False for the model; or the
-/// refusal of a buffer that is too short.
-fn one_in_both(model: &Answer, original: &Answer) -> bool {
+/// A part of what the original lists, in its order; so it is longer than the buffer only where the original's is.
+fn listed_less(model: List, original: List) -> bool {
+    listed_more(original, model)
+}
+
+/// A number that the original lists too, if it lists any. Of a list that is longer than the buffer nothing is known.
+fn one_in_both(model: List, original: List) -> bool {
     match (model, original) {
-        (Ok((_, model)), Ok((_, original))) => {
-            original.is_empty() || original.chunks(2).any(|number| lists(model, number))
+        (Some(model), Some(original)) => {
+            original.is_empty() || original.chunks(2).any(|number| has(model, number))
         }
-        (Ok((_, model)), Err(NO_ROOM)) => !model.is_empty(),
-        _ => *model == Err(NO_ROOM),
+        _ => true,
     }
 }
 
@@ -286,144 +334,215 @@ mod tests {
         assert_eq!(said(made_up::ASKED, "registered 393032"), (Ok(Origin::Rust), "1".to_owned()));
     }
 
+    fn tree(text: &str) -> Vec<u8> {
+        expression(text).expect("an expression").bytes()
+    }
+
+    /// An answer to `verdicts`.
+    fn verdicts_of(truth: u8, numbers: &[u8]) -> Answer {
+        let list = numbers.iter().flat_map(|number| [*number, 0]).collect();
+        Ok((format!("ok {truth} {}", numbers.len()), list))
+    }
+
     #[test]
     fn nine_hundred_is_taken_out() {
-        let [.., kind, truth, other] = RULES.map(|rule| rule.reason);
+        let [.., with_choice, _, verdicts, kind, other] = RULES.map(|rule| rule.reason);
         for spelt in ["393030", "30393030", "2b393030"] {
             assert_eq!(said(ASKED, &format!("kind {spelt}")), (Ok(Origin::Model(kind)), "6".to_owned()));
         }
-        let tree = expression("[0900] ∨ [902]").expect("an expression").bytes();
+        let cited = tree("[0900] ∨ [902]");
         let due = |reason, word: &str| Ok((Ok((word.to_owned(), Vec::new())), Origin::Model(reason)));
-        assert_eq!(ASKED.ask(Function::Truth, &[&tree, b"-1"]), due(truth, "2"));
-        assert_eq!(ASKED.ask(Function::Violations, &[&tree, b"-1", b""]), due(other, "ok 0"));
-        assert_eq!(ASKED.ask(Function::Eval, &[&tree, &[3, 3]]), due(other, "3"));
-        assert_eq!(ASKED.ask(Function::Cited, &[&tree]), due(other, "30393030,393032"));
+        assert_eq!(ASKED.ask(Function::Verdicts, &[&cited, b"-1", b""]), due(verdicts, "ok 2 0"));
+        let below = tree("([0900] ∨ [902]) ∧ [1]");
+        assert_eq!(ASKED.ask(Function::Verdicts, &[&below, b"-1", b""]), due(with_choice, "ok 2 0"));
+        assert_eq!(ASKED.ask(Function::Eval, &[&cited, &[3, 3]]), due(other, "3"));
+        assert_eq!(ASKED.ask(Function::Cited, &[&cited]), due(other, "30393030,393032"));
         assert_eq!(ASKED.ask(Function::Expr, &[b"[900] [", b""]), Ok((Err(2), Origin::Model(other))));
         assert_eq!(ASKED.ask(Function::Status, &[b"M [900]", b""]), Ok((Err(14), Origin::Model(other))));
+        for tree in [cited, below] {
+            for (value, why) in [(&[b'0'; 1_025][..], 10), (b"\xff", 11)] {
+                let said = ASKED.ask(Function::Verdicts, &[&tree, value, b""]);
+                assert_eq!(said, Ok((Err(why), Origin::Model(verdicts))));
+            }
+        }
     }
 
     #[test]
     fn a_value_not_in_full_form_is_taken_out() {
-        let [alone, both, truth, mixed, listed, ..] = RULES.map(|rule| rule.reason);
-        let due = |reason, word: &str| Ok((Ok((word.to_owned(), Vec::new())), Origin::Model(reason)));
+        let [alone, three, choice, cited, boundary, ..] = RULES.map(|rule| rule.reason);
         for id in [b"UB1", b"UB2", b"UB3"] {
             for value in ["202607012200draft+00", "2026+7012200+00", "-00002292300+00", "", "é"] {
-                assert_eq!(
-                    ASKED.ask(Function::Evaluate, &[id, value.as_bytes()]),
-                    due(alone, "V"),
-                    "{value}"
-                );
+                let said = ASKED.ask(Function::Evaluate, &[id, value.as_bytes()]);
+                let due = Ok(("V".to_owned(), Vec::new()));
+                assert_eq!(said, Ok((due, Origin::Model(alone))), "{value}");
             }
         }
-        let tree = |text| expression(text).expect("an expression").bytes();
-        let value = b"202607012200draft+00";
-        assert_eq!(ASKED.ask(Function::Truth, &[&tree("[UB1] ∧ [900]"), value]), due(both, "0"));
-        assert_eq!(ASKED.ask(Function::Truth, &[&tree("[UB3] ∨ [UB4]"), value]), due(truth, "1"));
-        let said = ASKED.ask(Function::Violations, &[&tree("[900] ∧ [902] ∧ [UB1]"), value, &[9; 4]]);
-        assert_eq!(said, Ok((list(&[1, 2]), Origin::Model(listed))));
-        for (text, numbers) in [
-            ("([UB1] ∨ [903]) ∧ [914]", &[0, 1, 2][..]),
-            ("([931] ∨ [903]) ∧ [UB1]", &[2]),
-            ("([931] ⊻ [903]) ∧ [900] ∧ [914] [UB1]", &[3, 4]),
-            ("([931] ∧ ([903] ∨ [900])) ∨ [UB1]", &[]),
+        for (text, reason, truth, numbers) in [
+            ("[UB1] ∧ [900]", cited, 0, &[0][..]),
+            ("[900] ∧ [902] ∧ [UB1]", cited, 0, &[1, 2]),
+            ("[UB1] ∨ [900]", cited, 2, &[]),
+            ("[UB3] ∨ [UB4]", boundary, 1, &[]),
+            ("[931] ∧ [902] ∧ [UB1]", boundary, 0, &[1, 2]),
+            ("([UB1] ∨ [903]) ∧ [914]", choice, 0, &[0, 1, 2]),
+            ("([931] ∨ [903]) ∧ [UB1]", choice, 0, &[2]),
+            ("([UB1] ∨ [UB4]) ∧ [931]", choice, 1, &[]),
+            ("([931] ⊻ [903]) ∧ [900] ∧ [914] [UB1]", three, 0, &[3, 4]),
+            ("([931] ∧ ([903] ∨ [900])) ∨ [UB1]", three, 2, &[]),
         ] {
-            let said = ASKED.ask(Function::Violations, &[&tree(text), value, &[9; 6]]);
-            assert_eq!(said, Ok((list(numbers), Origin::Model(mixed))), "{text}");
+            for room in 0..=6 {
+                let fields: [&[u8]; 3] = [&tree(text), b"202607012200draft+00", &[9; 6][..room]];
+                let short = room < 2 * numbers.len();
+                let due = if short { Err(NO_ROOM) } else { verdicts_of(truth, numbers) };
+                let said = ASKED.ask(Function::Verdicts, &fields);
+                assert_eq!(said, Ok((due, Origin::Model(reason))), "{text}, {room}");
+            }
         }
-    }
-
-    fn list(numbers: &[u8]) -> Answer {
-        Ok((format!("ok {}", numbers.len()), numbers.iter().flat_map(|number| [*number, 0]).collect()))
     }
 
     #[test]
-    fn violations_where_a_choice_is_below_the_root_are_taken_out() {
-        let below = RULES[5].reason;
-        for (text, value, numbers) in [
-            ("([902] ∨ [903]) [1] ∧ [914]", "0", &[3][..]),
-            ("([902] ∨ [903]) [1] ∧ [914]", "5", &[]),
-            ("([902] ⊻ [903]) [914]", "-1", &[0, 1, 2]),
-            ("([902] ∧ ([903] ∨ [1])) ∨ [914]", "0", &[]),
-            ("([900] ∨ [903]) ∧ [914]", "0", &[2]),
-            ("([UB1] ∨ [903]) ∧ [914]", "202607012200+00", &[2]),
-            ("([UB1] ⊻ [0900] ⊻ [903]) ∧ [UB2]", "202607012200+00", &[3]),
+    fn verdicts_where_a_choice_is_below_the_root_are_taken_out() {
+        let [cited, below] = [RULES[5].reason, RULES[6].reason];
+        for (text, value, reason, truth, numbers) in [
+            ("([902] ∨ [903]) [1] ∧ [914]", "0", below, 0, &[3][..]),
+            ("([902] ∨ [903]) [1] ∧ [914]", "5", below, 2, &[]),
+            ("([902] ⊻ [903]) [914]", "-1", below, 0, &[0, 1, 2]),
+            ("([902] ∧ ([903] ∨ [1])) ∨ [914]", "0", below, 2, &[]),
+            ("([903] ∨ [951]) ∧ [902]", "0", below, 1, &[]),
+            ("([900] ∨ [903]) ∧ [914]", "0", cited, 0, &[2]),
+            ("([900] ∨ [903]) ∧ [951]", "0", cited, 1, &[]),
+            ("([UB1] ∨ [903]) ∧ [914]", "202607012200+00", below, 0, &[2]),
+            ("([UB1] ⊻ [0900] ⊻ [903]) ∧ [UB2]", "202607012200+00", cited, 0, &[3]),
         ] {
-            let tree = expression(text).expect("an expression").bytes();
+            let tree = tree(text);
             for room in 0..=7 {
-                let said = ASKED.ask(Function::Violations, &[&tree, value.as_bytes(), &[9; 7][..room]]);
-                let due = if room < 2 * numbers.len() { Err(NO_ROOM) } else { list(numbers) };
-                assert_eq!(said, Ok((due, Origin::Model(below))), "{text}, {room}");
+                let said = ASKED.ask(Function::Verdicts, &[&tree, value.as_bytes(), &[9; 7][..room]]);
+                let short = room < 2 * numbers.len();
+                let due = if short { Err(NO_ROOM) } else { verdicts_of(truth, numbers) };
+                assert_eq!(said, Ok((due, Origin::Model(reason))), "{text}, {room}");
             }
         }
     }
 
     #[test]
-    fn other_violations_and_truths_are_not() {
-        let tree = |text| expression(text).expect("an expression").bytes();
-        for (text, numbers) in [
-            ("[902] ∨ [903]", &[][..]),
-            ("[903] ⊻ [914]", &[0, 1]),
-            ("([902] [903] ∧ [914]) ∨ ([927] [1])", &[1, 2, 3]),
-            ("[902] ∧ [903] [914]", &[1, 2]),
-            ("[903]", &[0]),
+    fn other_verdicts_are_not() {
+        for (text, truth, numbers) in [
+            ("[902] ∨ [903]", 2, &[][..]),
+            ("[903] ∨ [951]", 1, &[]),
+            ("[903] ⊻ [914]", 0, &[0, 1]),
+            ("([902] [903] ∧ [914]) ∨ ([927] [1])", 0, &[1, 2, 3]),
+            ("[902] ∧ [903] [914]", 0, &[1, 2]),
+            ("[903]", 0, &[0]),
         ] {
-            let said = ASKED.ask(Function::Violations, &[&tree(text), b"0", &[9; 6]]);
-            assert_eq!(said, Ok((list(numbers), Origin::Rust)), "{text}");
+            let said = ASKED.ask(Function::Verdicts, &[&tree(text), b"0", &[9; 6]]);
+            assert_eq!(said, Ok((verdicts_of(truth, numbers), Origin::Rust)), "{text}");
         }
         let below = tree("([902] ∨ [903]) ∧ [914]");
-        let truth = ASKED.ask(Function::Truth, &[&below, b"0"]);
-        assert_eq!(truth.map(|(_, origin)| origin), Ok(Origin::Rust));
         for (tree, value, why) in
             [(&below[1..], &b"0"[..], 15), (&below, &[b'0'; 1_025], 10), (&below, b"\xff", 11)]
         {
-            assert_eq!(ASKED.ask(Function::Violations, &[tree, value, b""]), Ok((Err(why), Origin::Paper)));
+            assert_eq!(ASKED.ask(Function::Verdicts, &[tree, value, b""]), Ok((Err(why), Origin::Paper)));
         }
     }
 
-    /// Holds a relation to what it is due to say of pairs of answers, the model's and the original's.
-    fn says(still: fn(&Answer, &Answer) -> bool, due: bool, pairs: &[(Answer, Answer)]) {
-        for (model, original) in pairs {
+    /// Holds relations to what they are due to say of pairs of answers, the model's and the original's.
+    fn say(relations: &[Still], due: bool, pairs: &[(Answer, Answer)]) {
+        for (still, (model, original)) in
+            relations.iter().flat_map(|one| pairs.iter().map(move |pair| (one, pair)))
+        {
             assert_eq!(still(model, original), due, "{model:?} beside {original:?}");
         }
+    }
+
+    /// What still holds where verdicts are taken out: for a boundary, 900 and a choice; a boundary and a choice; a boundary and
+    /// 900; a boundary; a choice and 900; a choice; 900.
+    fn on_verdicts() -> [Still; 7] {
+        [1, 2, 3, 4, 5, 6, 7].map(|rule| RULES[rule].still.expect("a relation"))
+    }
+
+    /// Two answers that say False, with these lists.
+    fn lists(model: &[u8], original: &[u8]) -> (Answer, Answer) {
+        (verdicts_of(0, model), verdicts_of(0, original))
     }
 
     #[test]
     fn lists_beside_the_originals() {
         let short = || Err(NO_ROOM);
-        let same = [(list(&[]), list(&[])), (list(&[1, 3]), list(&[1, 3])), (short(), short())];
-        let (part, more) = ((list(&[3]), list(&[1, 3])), (list(&[0, 1, 3]), list(&[1, 3])));
-        let (none, some) = ((list(&[]), list(&[1])), (list(&[1]), list(&[])));
-        let turned = (list(&[3, 1]), list(&[1, 3]));
-        let (fits, longer) = ((list(&[1]), short()), (short(), list(&[1])));
-        let wrong = [(list(&[]), short()), (list(&[1]), Err(15)), (Err(15), list(&[1])), (Err(15), short())];
+        let same = [lists(&[1, 3], &[1, 3]), (verdicts_of(2, &[]), verdicts_of(2, &[])), (short(), short())];
+        let (part, more) = (lists(&[3], &[1, 3]), lists(&[0, 1, 3], &[1, 3]));
+        let others = [lists(&[3, 1], &[1, 3]), lists(&[3, 3], &[1, 3]), lists(&[2, 3], &[1, 2])];
+        let (fits, longer) = ((verdicts_of(0, &[1]), short()), (short(), verdicts_of(0, &[1])));
 
-        says(listed_less, true, &same);
-        says(listed_less, true, &[part.clone(), fits.clone(), (Err(11), Err(11))]);
-        says(listed_less, false, &wrong);
-        says(listed_less, false, &[more.clone(), none.clone(), some.clone(), turned.clone(), longer.clone()]);
-        says(listed_less, false, &[(list(&[3, 3]), list(&[1, 3])), (short(), list(&[]))]);
+        let all = on_verdicts();
+        say(&all, true, &same);
+        say(&all, false, &[lists(&[0, 2], &[1, 3])]);
+        let [three, choice, cited, boundary, choice_cited, below, only_cited] = all;
+        say(&[three, choice], true, &[part.clone(), more.clone(), fits.clone(), longer.clone()]);
+        say(&[three, choice], true, &others);
+        say(&[cited, boundary], true, &[more.clone(), longer.clone()]);
+        say(&[cited, boundary], false, &[part.clone(), fits.clone()]);
+        say(&[choice_cited, below], true, &[part.clone(), fits.clone()]);
+        say(&[choice_cited, below], false, &[more.clone(), longer.clone()]);
+        say(&[only_cited], false, &[part, more, fits, longer]);
+        say(&[cited, boundary, choice_cited, below, only_cited], false, &others);
+    }
 
-        says(one_in_both, true, &same);
-        says(one_in_both, true, &[part.clone(), more.clone(), some.clone(), fits.clone(), longer.clone()]);
-        says(one_in_both, true, &[(list(&[2, 3]), list(&[1, 2]))]);
-        says(one_in_both, false, &wrong);
-        says(one_in_both, false, &[none.clone(), (list(&[0, 2]), list(&[1, 3]))]);
+    #[test]
+    fn truths_beside_the_originals() {
+        let said = |truth: u8| verdicts_of(truth, if truth == 0 { &[1] } else { &[] });
+        let lower = |model, original| model <= original;
+        let false_alike = |model, original| original > 0 || model == 0;
+        let raised = |model, original| model == original || model == 2 && original == 1;
+        let same = |model, original| model == original;
+        let due: [fn(u8, u8) -> bool; 7] = [false_alike, lower, false_alike, lower, raised, same, raised];
+        for (still, due) in on_verdicts().into_iter().zip(due) {
+            for (model, original) in (0..9).map(|pair| (pair / 3, pair % 3)) {
+                say(&[still], due(model, original), &[(said(model), said(original))]);
+            }
+        }
+    }
 
-        says(listed_more, true, &same);
-        says(listed_more, true, &[more, some, longer]);
-        says(listed_more, false, &wrong);
-        says(listed_more, false, &[part, none, turned, fits]);
+    /// A list that is longer than the buffer is that of a False.
+    #[test]
+    fn truths_beside_fourteen() {
+        let all = on_verdicts();
+        let [three, choice, cited, boundary, choice_cited, below, only_cited] = all;
+        for truth in [1, 2] {
+            let of_model = (Err(NO_ROOM), verdicts_of(truth, &[]));
+            say(&[three, choice, cited, boundary], true, &[of_model.clone()]);
+            say(&[choice_cited, below, only_cited], false, &[of_model]);
+            say(&all, false, &[(verdicts_of(truth, &[]), Err(NO_ROOM))]);
+        }
+    }
+
+    #[test]
+    fn other_refusals_and_answers_that_cannot_be() {
+        let short = || Err(NO_ROOM);
+        let words = |words: &str, list: &[u8]| Ok((words.to_owned(), list.to_vec()));
+        let wrong = [
+            (verdicts_of(0, &[1]), Err(15)),
+            (Err(15), verdicts_of(0, &[1])),
+            (Err(15), short()),
+            (short(), Err(15)),
+            (Err(10), Err(11)),
+            lists(&[], &[]),
+            (verdicts_of(0, &[]), short()),
+            (short(), verdicts_of(0, &[])),
+            (verdicts_of(1, &[1]), verdicts_of(1, &[1])),
+            (verdicts_of(3, &[]), verdicts_of(3, &[])),
+            (words("ok 0 2", &[1, 0]), verdicts_of(0, &[1])),
+            (words("ok 2", &[]), words("ok 2", &[])),
+        ];
+        say(&on_verdicts(), false, &wrong);
+        say(&on_verdicts(), true, &[(Err(11), Err(11))]);
     }
 
     #[test]
     fn one_in_full_form_is_not() {
-        let tree = expression("[UB1]").expect("an expression").bytes();
-        let value = &b"202607012200+00"[..];
-        for (function, first) in
-            [(Function::Evaluate, &b"UB1"[..]), (Function::Truth, &tree), (Function::Violations, &tree)]
-        {
-            let said = ASKED.ask(function, &[first, value, b""][..if function.lends() { 3 } else { 2 }]);
-            assert_eq!(said.map(|(_, origin)| origin), Ok(Origin::Time));
+        let (tree, value) = (tree("[UB1]"), &b"202607012200+00"[..]);
+        let asked: [(Function, &[&[u8]]); 2] =
+            [(Function::Evaluate, &[b"UB1", value]), (Function::Verdicts, &[&tree, value, b""])];
+        for (function, fields) in asked {
+            assert_eq!(ASKED.ask(function, fields).map(|(_, origin)| origin), Ok(Origin::Time));
         }
     }
 
@@ -441,13 +560,14 @@ mod tests {
 
     #[test]
     fn others_are_not() {
-        let tree = expression("[1900] ∨ [900 ]").expect("an expression").bytes();
-        for (function, fields) in [
-            (Function::Truth, [&tree[..], b"-1"]),
-            (Function::Expr, [b"[1900] ([900 ]", b""]),
-            (Function::Status, [b"900 [9001]", b""]),
-        ] {
-            assert_eq!(ASKED.ask(function, &fields).map(|(_, origin)| origin), Ok(Origin::Rust));
+        let tree = tree("[1900] ∨ [900 ]");
+        let asked: [(Function, &[&[u8]]); 3] = [
+            (Function::Verdicts, &[&tree, b"-1", b""]),
+            (Function::Expr, &[b"[1900] ([900 ]", b""]),
+            (Function::Status, &[b"900 [9001]", b""]),
+        ];
+        for (function, fields) in asked {
+            assert_eq!(ASKED.ask(function, fields).map(|(_, origin)| origin), Ok(Origin::Rust));
         }
     }
 

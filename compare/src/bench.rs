@@ -128,13 +128,15 @@ fn judging(name: &str, lines: &[&Line]) {
     row(name, "presence, answers looked up by text", lines, evaluated_by_text(lines), presence);
     row(name, "presence, answers at no cost", lines, evaluated_in_turn, presence);
     let truth = |line: &Line| used(formatbedingung::truth(line.expr(), &line.value));
-    row(name, "format truth", lines, truth, |line| {
-        used(ahb::truth(&line.tree, line.value.as_bytes()));
-    });
     let violations = |line: &Line| used(formatbedingung::violations(line.expr(), &line.value));
-    row(name, "violations", lines, violations, |line| {
-        used(ahb::violations(&line.tree, line.value.as_bytes(), &mut out));
-    });
+    let both = |line: &Line| {
+        truth(line);
+        violations(line);
+    };
+    let mut verdicts = |line: &Line| used(ahb::verdicts(&line.tree, line.value.as_bytes(), &mut out));
+    row(name, "verdicts, against both calls", lines, both, &mut verdicts);
+    row(name, "verdicts, against truth alone", lines, truth, &mut verdicts);
+    row(name, "verdicts, against violations alone", lines, violations, &mut verdicts);
 }
 
 /// The original's presence with an oracle that looks the text up in a list made beforehand.

@@ -29,8 +29,7 @@ pub fn ask(function: Function, fields: &[&[u8]]) -> Said {
         Function::Expr => ahb::read_expression(fields[0], &mut lent).map(|n| format!("ok {n}")),
         Function::Status => ahb::read_status(fields[0], &mut lent).map(status_words),
         Function::Eval => ahb::presence(fields[0], fields[1]).map(truth_word),
-        Function::Truth => ahb::truth(fields[0], fields[1]).map(truth_word),
-        Function::Violations => ahb::violations(fields[0], fields[1], &mut lent).map(|n| format!("ok {n}")),
+        Function::Verdicts => ahb::verdicts(fields[0], fields[1], &mut lent).map(verdicts_words),
         _ => unreachable!("not exported"),
     };
     let refused = |why: Refusal| format!("refused {}", why.number());
@@ -40,6 +39,11 @@ pub fn ask(function: Function, fields: &[&[u8]]) -> Said {
 #[cfg(feature = "library")]
 fn truth_word(truth: Truth) -> String {
     truth.number().to_string()
+}
+
+#[cfg(feature = "library")]
+fn verdicts_words((truth, count): (Truth, usize)) -> String {
+    format!("ok {} {count}", truth_word(truth))
 }
 
 #[cfg(feature = "library")]

@@ -278,12 +278,14 @@ impl Drop for Request<'_> {
 }
 
 /// Of so many requests of a function one is sent to replay. Where it is linked, what the library exports is called in
-/// process besides; where it is tried, it is compiled for each batch, also runs without optimization, and may not write much.
+/// process besides; where it is tried, it is compiled for each batch, also runs without optimization, and may not write much. The
+/// lists of verdicts are short, so of these more are sent.
 fn one_in(function: Function, long: bool) -> u64 {
     match (calls::LINKED, function.exported()) {
         _ if function == Function::Protocol => 1,
         (true, true) => 16,
         (true, false) => 1,
+        (false, true) if function == Function::Verdicts => 5,
         (false, true) if function.lends() => 241,
         (false, false) if function.lends() => 31,
         (false, _) if long => 7,

@@ -105,7 +105,8 @@ type Class = (Function, Vec<u8>, Vec<u8>);
 fn class(function: Function, request: &[u8], answer: &[u8]) -> Class {
     let refused = answer.starts_with(b"refused");
     let texts = function == Function::Cited && !refused;
-    let words = answer.split(|b| *b == b' ').take(if refused { 2 } else { usize::from(!texts) });
+    let two = refused || function == Function::Verdicts;
+    let words = answer.split(|b| *b == b' ').take(if two { 2 } else { usize::from(!texts) });
     let said = words.collect::<Vec<_>>().join(&b' ');
     let id = match request::parse(request) {
         Some((Function::Evaluate, fields)) if !refused => fields[0].clone(),

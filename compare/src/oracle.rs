@@ -72,8 +72,7 @@ pub fn ask(function: Function, fields: &[&[u8]]) -> (Answer, Origin) {
 /// Whether the original judges a tree and its flat tree alike (demand 3).
 pub fn judged_alike(a: &Expr, b: &Expr, answers: &[u8], value: &str) -> bool {
     evaluated(a, answers) == evaluated(b, answers)
-        && formatbedingung::truth(a, value) == formatbedingung::truth(b, value)
-        && violations(a, value) == violations(b, value)
+        && verdicts(a, value) == verdicts(b, value)
         && pakete(a) == pakete(b)
 }
 
@@ -127,13 +126,9 @@ fn answer_fields(function: Function, fields: &[&[u8]]) -> Answer {
         Function::Cited => Ok((cited(&expr(first)?), Vec::new())),
         Function::Eval => plain(presence(first, second)?),
         Function::Pakete => Ok(pakete(&expr(first)?)),
-        Function::Truth => {
+        Function::Verdicts => {
             let expr = expr(first)?;
-            plain(truth_code(formatbedingung::truth(&expr, value(second)?)))
-        }
-        Function::Violations => {
-            let expr = expr(first)?;
-            Ok(violations(&expr, value(second)?))
+            Ok(verdicts(&expr, value(second)?))
         }
         Function::Protocol => unreachable!("no request"),
     }
@@ -327,8 +322,15 @@ fn pakete(expr: &Expr) -> (String, Vec<u8>) {
     (format!("ok {}", found.len()), rows)
 }
 
+/// The original's format truth, how many citations it lists as violated, and their numbers.
+fn verdicts(expr: &Expr, value: &str) -> (String, Vec<u8>) {
+    let truth = truth_code(formatbedingung::truth(expr, value));
+    let numbers = violations(expr, value);
+    (format!("ok {truth} {}", numbers.len() / 2), numbers)
+}
+
 /// The numbers of the citations that the original lists as violated.
-fn violations(expr: &Expr, value: &str) -> (String, Vec<u8>) {
+fn violations(expr: &Expr, value: &str) -> Vec<u8> {
     let listed = formatbedingung::violations(expr, value);
     let mut due = listed.iter().map(|(id, _)| id.as_str()).peekable();
     let mut numbers = Vec::new();
@@ -339,7 +341,7 @@ fn violations(expr: &Expr, value: &str) -> (String, Vec<u8>) {
         }
     }
     assert!(due.next().is_none(), "violations stand in the order of citations");
-    (format!("ok {}", listed.len()), numbers)
+    numbers
 }
 
 #[cfg(test)]

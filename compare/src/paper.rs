@@ -14,7 +14,7 @@ pub fn examples(known: &[Function]) -> Vec<Example> {
     let mut all = Vec::new();
     kinds(&mut all);
     pakets(&mut all);
-    verdicts(&mut all);
+    evaluations(&mut all);
     boundaries(&mut all);
     registered(&mut all);
     readings(&mut all);
@@ -90,7 +90,7 @@ fn pakets(all: &mut Examples) {
     }
 }
 
-fn verdicts(all: &mut Examples) {
+fn evaluations(all: &mut Examples) {
     let due = [
         ("926", "-0.00", "H"),
         ("913", "99999", "H"),
@@ -265,16 +265,7 @@ fn judgements(all: &mut Examples) {
     say(all, Function::Cited, &[&nested], "31,32,33");
     presences(all, &program);
     say(all, Function::Pakete, &[&program, b""], "ok 0 -");
-    say(all, Function::Truth, &[&program, b"0"], "0");
-    for (room, answer) in [
-        (0, "refused 14 -"),
-        (1, "refused 14 09"),
-        (2, "ok 1 0300"),
-        (4, "ok 1 03000909"),
-        (5, "ok 1 0300090909"),
-    ] {
-        say(all, Function::Violations, &[&program, b"0", &vec![9; room]], answer);
-    }
+    verdicts(all, &program);
     nine_hundred(all);
     not_in_full_form(all);
     listed_groups(all);
@@ -283,12 +274,35 @@ fn judgements(all: &mut Examples) {
     listed_many(all);
 }
 
-/// Says which citations are listed, into a buffer that holds just these.
-fn say_listed(all: &mut Examples, rows: &[Row], texts: &[&str], value: &str, listed: &[u8]) {
+/// The program's example in buffers of some lengths, and the refusals, of which the first due one is said.
+fn verdicts(all: &mut Examples, program: &[u8]) {
+    let due: [(&[u8], usize, &str); 11] = [
+        (b"0", 0, "refused 14 -"),
+        (b"0", 1, "refused 14 09"),
+        (b"0", 2, "ok 0 1 0300"),
+        (b"0", 4, "ok 0 1 03000909"),
+        (b"0", 5, "ok 0 1 0300090909"),
+        (b"5", 0, "ok 2 0 -"),
+        (b"5", 3, "ok 2 0 090909"),
+        (&[b'0'; 1_025], 0, "refused 10 -"),
+        (&[0xFF; 1_025], 2, "refused 10 0909"),
+        (b"\xff", 0, "refused 11 -"),
+        (b"\xff", 3, "refused 11 090909"),
+    ];
+    for (value, room, answer) in due {
+        say(all, Function::Verdicts, &[program, value, &vec![9; room]], answer);
+    }
+    say(all, Function::Verdicts, &[&program[1..], &[0xFF; 1_025], b"\x09"], "refused 15 09");
+    let unknown = tree(&group_first(2, 3), &["903", "951", "902"]);
+    say(all, Function::Verdicts, &[&unknown, b"0", &[9; 3]], "ok 1 0 090909");
+}
+
+/// Says a truth, and which citations are listed, into a buffer that holds just these.
+fn say_listed(all: &mut Examples, rows: &[Row], texts: &[&str], value: &str, truth: u8, listed: &[u8]) {
     let numbers: Vec<u8> = listed.iter().flat_map(|number| [*number, 0]).collect();
-    let answer = format!("ok {} {}", listed.len(), hex(&numbers));
+    let answer = format!("ok {truth} {} {}", listed.len(), hex(&numbers));
     let lent = vec![9; numbers.len()];
-    say(all, Function::Violations, &[&tree(rows, texts), value.as_bytes(), &lent], &answer);
+    say(all, Function::Verdicts, &[&tree(rows, texts), value.as_bytes(), &lent], &answer);
 }
 
 /// A group of two citations, of a kind, and a third one beside it, as the operands of a node of another kind.
@@ -303,62 +317,62 @@ fn group_last(whole: u8, group: u8) -> [Row; 5] {
 
 /// A group and a citation: 902 holds for `0` and not for `-1`, 903 and 914 are violated by both, 951 has no evaluator.
 fn listed_groups(all: &mut Examples) {
-    let due: [([Row; 5], [&str; 3], &str, &[u8]); 15] = [
-        (group_first(2, 3), ["902", "903", "914"], "0", &[2]),
-        (group_first(2, 3), ["902", "903", "914"], "-1", &[0, 1, 2]),
-        (group_first(2, 3), ["902", "903", "914"], "5", &[]),
-        (group_first(1, 3), ["902", "903", "914"], "0", &[2]),
-        (group_first(1, 4), ["902", "903", "914"], "0", &[2]),
-        (group_first(2, 1), ["902", "903", "914"], "0", &[1, 2]),
-        (group_first(2, 3), ["902", "951", "914"], "-1", &[2]),
-        (group_first(2, 3), ["951", "902", "914"], "-1", &[2]),
-        (group_first(2, 3), ["903", "951", "902"], "0", &[]),
-        (group_first(2, 3), ["903", "914", "902"], "0", &[0, 1]),
-        (group_first(2, 3), ["903", "902", "903"], "0", &[2]),
-        (group_last(2, 3), ["903", "903", "902"], "0", &[0]),
-        (group_last(3, 2), ["903", "902", "914"], "0", &[0, 2]),
-        (group_last(3, 1), ["903", "902", "902"], "0", &[]),
-        (group_last(4, 3), ["903", "914", "903"], "0", &[0, 1, 2]),
+    let due: [([Row; 5], [&str; 3], &str, u8, &[u8]); 15] = [
+        (group_first(2, 3), ["902", "903", "914"], "0", 0, &[2]),
+        (group_first(2, 3), ["902", "903", "914"], "-1", 0, &[0, 1, 2]),
+        (group_first(2, 3), ["902", "903", "914"], "5", 2, &[]),
+        (group_first(1, 3), ["902", "903", "914"], "0", 0, &[2]),
+        (group_first(1, 4), ["902", "903", "914"], "0", 0, &[2]),
+        (group_first(2, 1), ["902", "903", "914"], "0", 0, &[1, 2]),
+        (group_first(2, 3), ["902", "951", "914"], "-1", 0, &[2]),
+        (group_first(2, 3), ["951", "902", "914"], "-1", 0, &[2]),
+        (group_first(2, 3), ["903", "951", "902"], "0", 1, &[]),
+        (group_first(2, 3), ["903", "914", "902"], "0", 0, &[0, 1]),
+        (group_first(2, 3), ["903", "902", "903"], "0", 0, &[2]),
+        (group_last(2, 3), ["903", "903", "902"], "0", 0, &[0]),
+        (group_last(3, 2), ["903", "902", "914"], "0", 0, &[0, 2]),
+        (group_last(3, 1), ["903", "902", "902"], "0", 2, &[]),
+        (group_last(4, 3), ["903", "914", "903"], "0", 0, &[0, 1, 2]),
     ];
-    for (rows, texts, value, listed) in due {
-        say_listed(all, &rows, &texts, value, listed);
+    for (rows, texts, value, truth, listed) in due {
+        say_listed(all, &rows, &texts, value, truth, listed);
     }
 }
 
 /// Groups in groups, and a Xor of which two operands hold, which is judged as an Or.
 fn listed_deeper(all: &mut Examples) {
     let xor = [(2, 2, 6), (4, 3, 4), (0, 0, 1), (0, 1, 1), (0, 2, 1), (0, 3, 1)];
-    say_listed(all, &xor, &["902", "909", "903", "914"], "0", &[3]);
-    say_listed(all, &xor, &["902", "909", "903", "914"], "-1", &[0, 1, 2, 3]);
+    say_listed(all, &xor, &["902", "909", "903", "914"], "0", 0, &[3]);
+    say_listed(all, &xor, &["902", "909", "903", "914"], "-1", 0, &[0, 1, 2, 3]);
     // an And in an Or in an And
     let and = [(2, 2, 7), (3, 2, 5), (2, 2, 3), (0, 0, 1), (0, 1, 1), (0, 2, 1), (0, 3, 1)];
-    say_listed(all, &and, &["902", "903", "910", "914"], "0", &[3]);
-    say_listed(all, &and, &["902", "903", "914", "910"], "0", &[1, 2]);
-    say_listed(all, &and, &["902", "903", "910", "914"], "A", &[0, 1, 2, 3]);
+    say_listed(all, &and, &["902", "903", "910", "914"], "0", 0, &[3]);
+    say_listed(all, &and, &["902", "903", "914", "910"], "0", 0, &[1, 2]);
+    say_listed(all, &and, &["902", "903", "910", "914"], "A", 0, &[0, 1, 2, 3]);
     // an Or in an And in an Or
     let or = [(3, 2, 7), (2, 2, 5), (0, 0, 1), (3, 2, 3), (0, 1, 1), (0, 2, 1), (0, 3, 1)];
-    say_listed(all, &or, &["903", "914", "902", "927"], "0", &[0, 3]);
-    say_listed(all, &or, &["903", "914", "927", "903"], "0", &[0, 1, 2, 3]);
-    say_listed(all, &or, &["903", "914", "927", "902"], "0", &[]);
+    say_listed(all, &or, &["903", "914", "902", "927"], "0", 0, &[0, 3]);
+    say_listed(all, &or, &["903", "914", "927", "903"], "0", 0, &[0, 1, 2, 3]);
+    say_listed(all, &or, &["903", "914", "927", "902"], "0", 2, &[]);
 }
 
 /// Groups with 900, which counts as True, and with UB1, which holds for the value in full form alone; 931 holds for both.
 fn listed_with_others(all: &mut Examples) {
     let (full, other) = ("202607012200+00", "202607012200draft+00");
-    let due: [([&str; 3], &str, &[u8]); 7] = [
-        (["900", "903", "914"], "0", &[2]),
-        (["902", "903", "+900"], "-1", &[0, 1]),
-        (["UB1", "903", "914"], full, &[2]),
-        (["UB1", "903", "914"], other, &[0, 1, 2]),
-        (["931", "903", "UB1"], other, &[2]),
-        (["931", "903", "UB1"], full, &[]),
-        (["UB1", "0900", "914"], other, &[2]),
+    let due: [([&str; 3], &str, u8, &[u8]); 7] = [
+        (["900", "903", "914"], "0", 0, &[2]),
+        (["902", "903", "+900"], "-1", 0, &[0, 1]),
+        (["UB1", "903", "914"], full, 0, &[2]),
+        (["UB1", "903", "914"], other, 0, &[0, 1, 2]),
+        (["931", "903", "UB1"], other, 0, &[2]),
+        (["931", "903", "UB1"], full, 2, &[]),
+        (["UB1", "0900", "914"], other, 0, &[2]),
     ];
-    for (texts, value, listed) in due {
-        say_listed(all, &group_first(2, 3), &texts, value, listed);
+    for (texts, value, truth, listed) in due {
+        say_listed(all, &group_first(2, 3), &texts, value, truth, listed);
     }
     let three = [(2, 3, 6), (3, 2, 3), (0, 0, 1), (0, 1, 1), (0, 2, 1), (0, 3, 1)];
-    say_listed(all, &three, &["931", "903", "914", "UB1"], other, &[2, 3]);
+    say_listed(all, &three, &["931", "903", "914", "UB1"], other, 0, &[2, 3]);
 }
 
 /// A choice of many 903 and one 902, and 914 beside it: on `0` 902 holds, and what the choice has listed is taken back; on `-1` all
@@ -371,41 +385,41 @@ fn listed_many(all: &mut Examples) {
         texts[usize::from(count) - 1] = "902";
         texts.push("914");
         let every: Vec<u8> = (0..=count).collect();
-        say_listed(all, &rows, &texts, "-1", &every);
-        say_listed(all, &rows, &texts, "5", &[]);
+        say_listed(all, &rows, &texts, "-1", 0, &every);
+        say_listed(all, &rows, &texts, "5", 2, &[]);
         let whole = tree(&rows, &texts);
-        say(all, Function::Truth, &[&whole, b"0"], "0");
-        say(all, Function::Truth, &[&whole, b"5"], "2");
         for (room, rest) in [(2, ""), (9, "09090909090909")] {
-            let answer = format!("ok 1 {}00{rest}", hex(&[count]));
-            say(all, Function::Violations, &[&whole, b"0", &vec![9; room]], &answer);
+            let answer = format!("ok 0 1 {}00{rest}", hex(&[count]));
+            say(all, Function::Verdicts, &[&whole, b"0", &vec![9; room]], &answer);
         }
     }
 }
 
-/// Values that hold 931 and violate a day boundary's condition, since they end `+00` and are not in full form.
+/// Values that end `+00` hold 931; they violate a day boundary's condition where they are not in full form, and may hold it else.
 fn not_in_full_form(all: &mut Examples) {
+    let joined = |kind, text| tree(&[(kind, 2, 3), (0, 0, 1), (0, 1, 1)], &["931", text]);
     let due = [("UB1", "202607012200draft+00"), ("UB2", "2026+7010400+00"), ("UB3", "202607012200é+00")];
     for (text, value) in due.map(|(text, value)| (text, value.as_bytes())) {
-        let joined = |kind| tree(&[(kind, 2, 3), (0, 0, 1), (0, 1, 1)], &["931", text]);
-        say(all, Function::Truth, &[&joined(2), value], "0");
-        say(all, Function::Truth, &[&joined(3), value], "2");
-        say(all, Function::Violations, &[&joined(2), value, &[9; 3]], "ok 1 010009");
+        say(all, Function::Verdicts, &[&joined(2, text), value, &[9; 3]], "ok 0 1 010009");
+        say(all, Function::Verdicts, &[&joined(3, text), value, b""], "ok 2 0 -");
     }
+    for (text, answer) in [("UB1", "ok 2 0 09"), ("UB2", "refused 14 09"), ("UB3", "ok 2 0 09")] {
+        say(all, Function::Verdicts, &[&joined(2, text), b"202607012200+00", b"\x09"], answer);
+    }
+    say(all, Function::Verdicts, &[&joined(2, "UB2"), b"202607012200+00", &[9; 2]], "ok 0 1 0100");
 }
 
 /// 900 is of kind Other: it neither gates nor is judged.
 fn nine_hundred(all: &mut Examples) {
     for spelt in ["900", "0900", "+900"] {
         let one = tree(&[(0, 0, 1)], &[spelt]);
-        say(all, Function::Truth, &[&one, b"0"], "2");
-        say(all, Function::Violations, &[&one, b"0", b""], "ok 0 -");
+        say(all, Function::Verdicts, &[&one, b"0", b""], "ok 2 0 -");
         say(all, Function::Eval, &[&one, &[1]], "1");
     }
     let joined = |kind, texts: [&str; 2]| tree(&[(kind, 2, 3), (0, 0, 1), (0, 1, 1)], &texts);
-    say(all, Function::Truth, &[&joined(3, ["900", "902"]), b"-1"], "2");
-    say(all, Function::Truth, &[&joined(2, ["900", "951"]), b"0"], "1");
-    say(all, Function::Violations, &[&joined(2, ["900", "902"]), b"-1", &[9; 3]], "ok 1 010009");
+    say(all, Function::Verdicts, &[&joined(3, ["900", "902"]), b"-1", b""], "ok 2 0 -");
+    say(all, Function::Verdicts, &[&joined(2, ["900", "951"]), b"0", b""], "ok 1 0 -");
+    say(all, Function::Verdicts, &[&joined(2, ["900", "902"]), b"-1", &[9; 3]], "ok 0 1 010009");
     say(all, Function::Eval, &[&joined(3, ["1", "900"]), &[2, 3]], "refused 7");
 }
 

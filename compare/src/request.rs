@@ -15,8 +15,7 @@ pub enum Function {
     Cited,
     Eval,
     Pakete,
-    Truth,
-    Violations,
+    Verdicts,
     Protocol,
 }
 
@@ -28,9 +27,9 @@ pub const LONGEST_LINE: usize = 64 * 1024;
 pub const BAD_REQUEST: &str = "bad request";
 
 impl Function {
-    pub const ALL: [Self; 15] = [
-        Kind, Paket, Name, Evaluate, Registered, Expr, Status, Tree, Print, Cited, Eval, Pakete, Truth,
-        Violations, Protocol,
+    pub const ALL: [Self; 14] = [
+        Kind, Paket, Name, Evaluate, Registered, Expr, Status, Tree, Print, Cited, Eval, Pakete, Verdicts,
+        Protocol,
     ];
 
     /// The word that a request begins with.
@@ -48,8 +47,7 @@ impl Function {
             Cited => "cited",
             Eval => "eval",
             Pakete => "pakete",
-            Truth => "truth",
-            Violations => "violations",
+            Verdicts => "verdicts",
             Protocol => "protocol",
         }
     }
@@ -63,7 +61,7 @@ impl Function {
     pub fn fields(self) -> usize {
         match self {
             Kind | Paket | Name | Registered | Tree | Cited => 1,
-            Violations => 3,
+            Verdicts => 3,
             Protocol => 0,
             _ => 2,
         }
@@ -71,12 +69,12 @@ impl Function {
 
     /// Whether the last field is a lent buffer.
     pub fn lends(self) -> bool {
-        matches!(self, Expr | Status | Print | Pakete | Violations)
+        matches!(self, Expr | Status | Print | Pakete | Verdicts)
     }
 
     /// Whether the library for callers exports it, so that it is called in process.
     pub fn exported(self) -> bool {
-        matches!(self, Expr | Status | Eval | Truth | Violations)
+        matches!(self, Expr | Status | Eval | Verdicts)
     }
 
     /// A request that is answered by every replay that knows the function.

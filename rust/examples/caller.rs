@@ -42,15 +42,15 @@ fn said(name: &str, answer: Result<Truth, Refusal>) -> Result<Truth, Refusal> {
     answer
 }
 
-fn listed(name: &str, tree: &[u8], value: &[u8], room: usize) -> Result<usize, Refusal> {
+fn judged(name: &str, tree: &[u8], value: &[u8], room: usize) -> Result<(Truth, usize), Refusal> {
     let mut list = [PATTERN; VIOLATIONS_SIZE + 16];
-    let answer = violations(tree, value, &mut list[..room]);
-    let written = 2 * answer.unwrap_or(0);
+    let answer = verdicts(tree, value, &mut list[..room]);
+    let written = answer.map_or(0, |(_, count)| 2 * count);
     assert!(written <= room && list[written..].iter().all(|&b| b == PATTERN));
     match answer {
-        Ok(count) => {
+        Ok((truth, count)) => {
             let numbers = list[..written].chunks(2).map(|b| format!(" {}", u16::from_le_bytes([b[0], b[1]])));
-            println!("{name}: {count}{}", numbers.collect::<String>());
+            println!("{name}: {truth:?}, {count}{}", numbers.collect::<String>());
         }
         Err(why) => println!("{name}: refused {}", why.number()),
     }
@@ -100,22 +100,15 @@ fn judging() {
     assert_eq!(said("NULL tree", presence(&[], &[])), Err(Refusal::NotATree));
 
     let zeros = [b'0'; VALUE_LIMIT + 1];
-    assert_eq!(said("truth of 0", truth(&tree, b"0")), Ok(Truth::False));
-    assert_eq!(said("truth of 1", truth(&tree, b"1")), Ok(Truth::True));
-    assert_eq!(said("truth of nothing", truth(&tree, b"")), Ok(Truth::False));
-    assert_eq!(said("truth of 1,024 zeros", truth(&tree, &zeros[..VALUE_LIMIT])), Ok(Truth::False));
-    assert_eq!(said("truth of 1,025 zeros", truth(&tree, &zeros)), Err(Refusal::TooLong));
-    assert_eq!(said("truth of no UTF-8", truth(&tree, b"\xFF")), Err(Refusal::NotUtf8));
-    assert_eq!(said("truth without a tree", truth(&[], &[])), Err(Refusal::NotATree));
-
-    assert_eq!(listed("violations of 0", &tree, b"0", 2), Ok(1));
-    assert_eq!(listed("violations of 0, one short", &tree, b"0", 1), Err(Refusal::NoRoom));
-    assert_eq!(listed("violations of 0, no room", &tree, b"0", 0), Err(Refusal::NoRoom));
-    assert_eq!(listed("violations of 1, no room", &tree, b"1", 0), Ok(0));
-    assert_eq!(listed("violations of nothing", &tree, b"", VIOLATIONS_SIZE), Ok(3));
-    assert_eq!(listed("violations of 1,025 zeros", &tree, &zeros, 4), Err(Refusal::TooLong));
-    assert_eq!(listed("violations of no UTF-8", &tree, b"\xFF", 4), Err(Refusal::NotUtf8));
-    assert_eq!(listed("violations without a tree", &[], &[], 0), Err(Refusal::NotATree));
+    assert_eq!(judged("verdicts on 0", &tree, b"0", 2), Ok((Truth::False, 1)));
+    assert_eq!(judged("verdicts on 0, one short", &tree, b"0", 1), Err(Refusal::NoRoom));
+    assert_eq!(judged("verdicts on 0, no room", &tree, b"0", 0), Err(Refusal::NoRoom));
+    assert_eq!(judged("verdicts on 1, no room", &tree, b"1", 0), Ok((Truth::True, 0)));
+    assert_eq!(judged("verdicts on nothing", &tree, b"", VIOLATIONS_SIZE), Ok((Truth::False, 3)));
+    assert_eq!(judged("verdicts on 1,024 zeros", &tree, &zeros[..VALUE_LIMIT], 3), Ok((Truth::False, 1)));
+    assert_eq!(judged("verdicts on 1,025 zeros", &tree, &zeros, 4), Err(Refusal::TooLong));
+    assert_eq!(judged("verdicts on no UTF-8", &tree, b"\xFF", 4), Err(Refusal::NotUtf8));
+    assert_eq!(judged("verdicts without a tree", &[], &[], 0), Err(Refusal::NotATree));
 }
 
 fn choosing() {
@@ -123,7 +116,7 @@ fn choosing() {
     assert_eq!(said("mixed choice", presence(&tree, &[2, 3])), Err(Refusal::ChoiceOverNeutral));
     let (_, tree) = expression("unregistered", b"[922]", TREE_SIZE);
     assert_eq!(said("unknown", presence(&tree, &[1])), Ok(Truth::Unknown));
-    assert_eq!(said("truth unknown", truth(&tree, b"")), Ok(Truth::Unknown));
+    assert_eq!(judged("verdicts unknown", &tree, b"", 0), Ok((Truth::Unknown, 0)));
     let (_, tree) = expression("hint", b"[500]", TREE_SIZE);
     assert_eq!(said("neutral", presence(&tree, &[3])), Ok(Truth::Neutral));
 }
@@ -141,8 +134,8 @@ fn largest() {
     assert_eq!(expression("largest tree, one short", text.as_bytes(), TREE_SIZE - 1).0, Err(Refusal::NoRoom));
 
     let (_, tree) = expression("256 times [902]", &b"[902]".repeat(CITATION_LIMIT), TREE_SIZE);
-    assert_eq!(listed("all violated", &tree, b"", VIOLATIONS_SIZE), Ok(CITATION_LIMIT));
-    assert_eq!(listed("all violated, one short", &tree, b"", VIOLATIONS_SIZE - 1), Err(Refusal::NoRoom));
+    assert_eq!(judged("all violated", &tree, b"", VIOLATIONS_SIZE), Ok((Truth::False, CITATION_LIMIT)));
+    assert_eq!(judged("all violated, one short", &tree, b"", VIOLATIONS_SIZE - 1), Err(Refusal::NoRoom));
 }
 
 fn main() {

@@ -23,8 +23,8 @@ pub const FAILED: u8 = 4;
 const ACCEPTED: u64 = 1 << 32;
 const PRESENT: u32 = 256;
 const EXPRESSION: u64 = 7;
-const FIRST_MODE: u8 = 0;
-const SECOND_MODE: u8 = 1;
+const EXPRESSION_MODE: u8 = 0;
+const STATUS_MODE: u8 = 1;
 
 /// The functions as the library defines them: a slice is a pointer that is not null, and a length.
 mod raw {
@@ -48,7 +48,6 @@ mod raw {
             tree_length: usize,
             value: *const u8,
             value_length: usize,
-            mode: u8,
             list: *mut u8,
             list_length: usize,
         ) -> u64;
@@ -195,28 +194,28 @@ impl Truth {
     }
 }
 
-/// What an answer of 64 bits holds beside the mark of acceptance.
-fn accepted(answer: u64) -> Result<u64, Refusal> {
-    answer.checked_sub(ACCEPTED).ok_or_else(|| Refusal::of(answer))
+/// What an accepted answer of 64 bits says: a code or the number of a truth, and a length or a count.
+fn parts(answer: u64) -> Result<(u64, usize), Refusal> {
+    let said = answer.checked_sub(ACCEPTED).ok_or_else(|| Refusal::of(answer))?;
+    Ok((said >> 16, (said & 0xFFFF) as usize))
 }
 
 /// The code, and the length.
 fn read(text: &[u8], mode: u8, out: &mut [u8]) -> Result<(u64, usize), Refusal> {
     // A slice's pointer is never null, and `out` overlaps nothing.
-    let answer = unsafe { raw::ahb_read(text.as_ptr(), text.len(), mode, out.as_mut_ptr(), out.len()) };
-    accepted(answer).map(|said| (said >> 16, (said & 0xFFFF) as usize))
+    parts(unsafe { raw::ahb_read(text.as_ptr(), text.len(), mode, out.as_mut_ptr(), out.len()) })
 }
 
 /// Reads an expression: the length of its tree, which begins `out`.
 pub fn read_expression(text: &[u8], out: &mut [u8]) -> Result<usize, Refusal> {
-    let (code, length) = read(text, FIRST_MODE, out)?;
+    let (code, length) = read(text, EXPRESSION_MODE, out)?;
     debug_assert_eq!(code, EXPRESSION);
     Ok(length)
 }
 
 /// Reads a status: its word and the length of the tree after it, which begins `out`; a word alone has no tree.
 pub fn read_status(text: &[u8], out: &mut [u8]) -> Result<(StatusKind, Option<usize>), Refusal> {
-    let (code, length) = read(text, SECOND_MODE, out)?;
+    let (code, length) = read(text, STATUS_MODE, out)?;
     Ok((StatusKind::ALL[code as usize], (length != 0).then_some(length)))
 }
 
@@ -228,7 +227,10 @@ pub fn presence(tree: &[u8], answers: &[u8]) -> Result<Truth, Refusal> {
     Ok(Truth::ALL[said as usize])
 }
 
-fn verdicts(tree: &[u8], value: &[u8], mode: u8, list: &mut [u8]) -> Result<usize, Refusal> {
+/// The format truth of a tree for a value, and how many violations it has: the citations that it violates, but for those in a
+/// group that is True or Unknown. Their numbers begin `list`, 2 bytes each, the low one first; of a list that is too short for
+/// them [`Refusal::NoRoom`] is all that is said.
+pub fn verdicts(tree: &[u8], value: &[u8], list: &mut [u8]) -> Result<(Truth, usize), Refusal> {
     // A slice's pointer is never null, and `list` overlaps nothing.
     let answer = unsafe {
         raw::ahb_verdicts(
@@ -236,21 +238,10 @@ fn verdicts(tree: &[u8], value: &[u8], mode: u8, list: &mut [u8]) -> Result<usiz
             tree.len(),
             value.as_ptr(),
             value.len(),
-            mode,
             list.as_mut_ptr(),
             list.len(),
         )
     };
-    accepted(answer).map(|said| said as usize)
-}
-
-/// The format truth of a tree for a value.
-pub fn truth(tree: &[u8], value: &[u8]) -> Result<Truth, Refusal> {
-    verdicts(tree, value, FIRST_MODE, &mut []).map(|said| Truth::ALL[said])
-}
-
-/// How many violations a tree has for a value: the citations that it violates, but for those in a group that is True or
-/// Unknown. Their numbers begin `list`, 2 bytes each, the low one first.
-pub fn violations(tree: &[u8], value: &[u8], list: &mut [u8]) -> Result<usize, Refusal> {
-    verdicts(tree, value, SECOND_MODE, list)
+    let (truth, count) = parts(answer)?;
+    Ok((Truth::ALL[truth as usize], count))
 }

@@ -1,5 +1,5 @@
 //! The functions of the crate: every refusal that they can give, the limits from both sides, empty slices, both modes of
-//! reading and of judging, and lent bytes that stay.
+//! reading, and lent bytes that stay.
 
 use ahb::*;
 
@@ -32,9 +32,11 @@ fn status(text: &[u8], room: usize) -> (Result<Status, Refusal>, Vec<u8>) {
     lent(room, |(_, length): Status| length.unwrap_or(0), |out| read_status(text, out))
 }
 
-/// How many violations there are, and their numbers.
-fn listed(tree: &[u8], value: &[u8], room: usize) -> (Result<usize, Refusal>, Vec<u16>) {
-    let (answer, list) = lent(room, |count| 2 * count, |list| violations(tree, value, list));
+type Verdicts = (Truth, usize);
+
+/// The format truth, how many violations there are, and their numbers.
+fn judged(tree: &[u8], value: &[u8], room: usize) -> (Result<Verdicts, Refusal>, Vec<u16>) {
+    let (answer, list) = lent(room, |(_, count): Verdicts| 2 * count, |list| verdicts(tree, value, list));
     (answer, list.chunks(2).map(|b| u16::from_le_bytes([b[0], b[1]])).collect())
 }
 
@@ -159,8 +161,8 @@ fn largest_results() {
 
     let tree = tree_of(&"[902]".repeat(CITATION_LIMIT));
     let all: Vec<u16> = (0..256).collect();
-    assert_eq!(listed(&tree, b"", VIOLATIONS_SIZE), (Ok(CITATION_LIMIT), all));
-    assert_eq!(listed(&tree, b"", VIOLATIONS_SIZE - 1).0, Err(Refusal::NoRoom));
+    assert_eq!(judged(&tree, b"", VIOLATIONS_SIZE), (Ok((Truth::False, CITATION_LIMIT)), all));
+    assert_eq!(judged(&tree, b"", VIOLATIONS_SIZE - 1).0, Err(Refusal::NoRoom));
 }
 
 #[test]
@@ -192,42 +194,44 @@ fn bytes_that_are_no_tree() {
     changed[12] = 5;
     for bytes in [&[][..], &tree[..tree.len() - 1], &longer, &changed] {
         assert_eq!(presence(bytes, &[]), Err(Refusal::NotATree));
-        assert_eq!(truth(bytes, b"\xFF"), Err(Refusal::NotATree));
-        assert_eq!(listed(bytes, b"\xFF", 4).0, Err(Refusal::NotATree));
+        assert_eq!(judged(bytes, b"\xFF", 4).0, Err(Refusal::NotATree));
     }
 }
 
 #[test]
-fn truths() {
-    let tree = tree_of(LINE);
-    assert_eq!(truth(&tree, b"1"), Ok(Truth::True));
-    assert_eq!(truth(&tree, b"0"), Ok(Truth::False));
-    assert_eq!(truth(&tree, b""), Ok(Truth::False));
-    assert_eq!(truth(&tree_of("[922]"), b""), Ok(Truth::Unknown));
+fn truths_without_violations() {
+    assert_eq!(judged(&tree_of(LINE), b"1", 0), (Ok((Truth::True, 0)), Vec::new()));
+    assert_eq!(judged(&tree_of("[922]"), b"", 0), (Ok((Truth::Unknown, 0)), Vec::new()));
+    // 902 is violated, and 922 has no evaluator, so the choice may hold
+    assert_eq!(judged(&tree_of("[902] ∨ [922]"), b"-1", 0), (Ok((Truth::Unknown, 0)), Vec::new()));
+}
+
+#[test]
+fn a_violation_beside_a_condition_without_an_evaluator() {
+    assert_eq!(judged(&tree_of("[902] ∧ [922]"), b"-1", 2), (Ok((Truth::False, 1)), vec![0]));
 }
 
 #[test]
 fn values_turned_back() {
     let tree = tree_of(LINE);
     let zeros = [b'0'; VALUE_LIMIT + 1];
-    assert_eq!(truth(&tree, &zeros[1..]), Ok(Truth::False));
-    assert_eq!(listed(&tree, &zeros[1..], 2).0, Ok(1));
+    assert_eq!(judged(&tree, &zeros[1..], 2).0, Ok((Truth::False, 1)));
     for (value, why) in [(&zeros[..], Refusal::TooLong), (b"\xFF", Refusal::NotUtf8)] {
-        assert_eq!(truth(&tree, value), Err(why));
-        assert_eq!(listed(&tree, value, 4).0, Err(why));
+        assert_eq!(judged(&tree, value, 4).0, Err(why));
+        assert_eq!(judged(&tree, value, 0).0, Err(why));
     }
 }
 
 #[test]
 fn room_for_violations() {
     let tree = tree_of(LINE);
-    assert_eq!(listed(&tree, b"0", 2), (Ok(1), vec![3]));
-    assert_eq!(listed(&tree, b"0", 3), (Ok(1), vec![3]));
-    assert_eq!(listed(&tree, b"", 6), (Ok(3), vec![0, 1, 3]));
+    assert_eq!(judged(&tree, b"0", 2), (Ok((Truth::False, 1)), vec![3]));
+    assert_eq!(judged(&tree, b"0", 3), (Ok((Truth::False, 1)), vec![3]));
+    assert_eq!(judged(&tree, b"", 6), (Ok((Truth::False, 3)), vec![0, 1, 3]));
     for room in [0, 1] {
-        assert_eq!(listed(&tree, b"0", room).0, Err(Refusal::NoRoom));
+        assert_eq!(judged(&tree, b"0", room).0, Err(Refusal::NoRoom));
     }
-    assert_eq!(listed(&tree, b"1", 0), (Ok(0), Vec::new()));
+    assert_eq!(judged(&tree, b"", 5).0, Err(Refusal::NoRoom));
 }
 
 #[test]

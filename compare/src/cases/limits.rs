@@ -53,8 +53,7 @@ fn value_limits(cases: &mut Cases) {
     let one = encode_parts(1, &[0, 0, 0, 0, 1, 0], &[b"902"]);
     for tree in [one.as_slice(), b"", &one[1..]] {
         for value in values {
-            cases.ask(Truth, &[tree, value]);
-            cases.ask_lent(Violations, &[tree, value], 1);
+            cases.ask_lent(Verdicts, &[tree, value], 1);
         }
     }
 }
@@ -123,7 +122,7 @@ fn largest(cases: &mut Cases) {
     let violated = encode(&read(&"[903]".repeat(MOST_CITATIONS)).expect("within the limits"));
     let pakete = encode(&read(&"[1P]".repeat(MOST_CITATIONS)).expect("within the limits"));
     for length in around(2 * MOST_CITATIONS) {
-        cases.ask_lent(Violations, &[&violated, b"0"], length);
+        cases.ask_lent(Verdicts, &[&violated, b"0"], length);
     }
     for length in [19 * MOST_CITATIONS - 1, 19 * MOST_CITATIONS] {
         cases.ask_lent(Pakete, &[&pakete], length);
@@ -159,7 +158,7 @@ fn tree_of(cases: &mut Cases, lengths: &[usize]) {
     cases.ask(Tree, &[&tree]);
     cases.ask_lent(Print, &[&tree], 2);
     cases.ask(Eval, &[&tree, &vec![2; lengths.len()]]);
-    cases.ask(Truth, &[&tree, b"1"]);
+    cases.ask_lent(Verdicts, &[&tree, b"1"], 2);
 }
 
 #[cfg(test)]

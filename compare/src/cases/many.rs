@@ -2,11 +2,11 @@
 
 use super::Cases;
 use super::reading::{ask_near, damaged, write_chain};
-use super::trees::{VALUES, answers, random_tree};
-use crate::model::listed_alike;
+use super::trees::{VALUES, answers, ask_verdicts, random_tree};
+use crate::model;
 use crate::oracle::{judged_alike, read};
 use crate::original::conditions::Expr;
-use crate::request::Function::{Eval, Expr as ExprText, Truth, Violations};
+use crate::request::Function::{Eval, Expr as ExprText};
 use crate::tree::{encode, flat};
 
 /// So many rounds; a round reads a text, or makes a tree, and judges it.
@@ -48,20 +48,21 @@ fn judge(cases: &mut Cases, expr: &Expr) {
         cases.trees += 1;
         ask_both(cases, &tree, &answers, value);
         if flat_tree != tree {
-            assert!(listed_alike(&tree, &flat_tree, value), "violations of a tree and its flat tree: {expr}");
+            assert!(
+                model::judged_alike(&tree, &flat_tree, value),
+                "the model's verdicts on a tree and its flat tree: {expr}"
+            );
             ask_both(cases, &flat_tree, &answers, value);
         }
     }
     let mut damaged = tree;
     let place = cases.random.below(damaged.len());
     damaged[place] = damaged[place].wrapping_add(*cases.random.pick(&[1, 2, 6, 255, 128]));
-    cases.ask(Truth, &[&damaged, b"5"]);
+    ask_verdicts(cases, &damaged, b"5", cited.len());
     cases.ask(Eval, &[&damaged, &[]]);
 }
 
 fn ask_both(cases: &mut Cases, tree: &[u8], answers: &[u8], value: &str) {
     cases.ask(Eval, &[tree, answers]);
-    cases.ask(Truth, &[tree, value.as_bytes()]);
-    let numbers = cases.random.below(4);
-    cases.ask_lent_near(Violations, &[tree, value.as_bytes()], 2 * numbers);
+    ask_verdicts(cases, tree, value.as_bytes(), answers.len());
 }

@@ -3,11 +3,11 @@
 use super::Cases;
 use crate::request::{Function, LONGEST_LINE};
 
-const NO_REQUESTS: [&str; 30] = [
+const NO_REQUESTS: [&str; 32] = [
     "", " ", "kind", "kind ", "kind  31", " kind 31", "kind 31 ", "kind 31 31", "kind 3", "kind 313",
     "kind 3A", "kind 3g", "kind --", "kind -31", "kind 31-", "kind - -", "Kind 31", "KIND 31", "kinds 31",
     "kin 31", "kind\t31", "kind 31\r", "kind 31\t", "kind 0x31", "evaluate 31", "evaluate 31 ",
-    "evaluate 31 31 31", "registered", "paket - -", "protocol",
+    "evaluate 31 31 31", "registered", "paket - -", "protocol", "truth - -", "violations - - -",
 ];
 
 pub fn lines(cases: &mut Cases) {

@@ -3,14 +3,14 @@
 use std::collections::{HashMap, HashSet};
 
 use super::Cases;
-use crate::model::listed_alike;
+use crate::model;
 use crate::oracle::{LONGEST_TEXT, LONGEST_VALUE, judged_alike, read};
 use crate::original::conditions::Expr;
 use crate::random::hash;
 use crate::request::Function::{self, *};
 use crate::tree::{NODE_ROW, encode, encode_parts, flat, node, operands};
 
-pub const TREE_FUNCTIONS: [Function; 7] = [Tree, Print, Cited, Eval, Pakete, Truth, Violations];
+pub const TREE_FUNCTIONS: [Function; 6] = [Tree, Print, Cited, Eval, Pakete, Verdicts];
 
 pub const VALUES: [&str; 16] = [
     "0", "1", "5", "-1", "0.5", "99999", "1000", "", "A", "202603292200+00", "202612010500+00",
@@ -55,8 +55,8 @@ impl Judged {
         ask_tree(cases, &bytes, &answers, value.as_bytes(), expr.cited().len());
         if flat_bytes != bytes {
             assert!(
-                listed_alike(&bytes, &flat_bytes, value),
-                "violations of a tree and its flat tree: {print}"
+                model::judged_alike(&bytes, &flat_bytes, value),
+                "the model's verdicts on a tree and its flat tree: {print}"
             );
             cases.ask_lent_near(Print, &[&flat_bytes], print.len());
             ask_tree(cases, &flat_bytes, &answers, value.as_bytes(), expr.cited().len());
@@ -69,10 +69,16 @@ fn ask_tree(cases: &mut Cases, tree: &[u8], answers: &[u8], value: &[u8], citati
     cases.ask(Tree, &[tree]);
     cases.ask(Cited, &[tree]);
     cases.ask(Eval, &[tree, answers]);
-    cases.ask(Truth, &[tree, value]);
     let rows = cases.random.below(citations.min(3) + 1);
     cases.ask_lent_near(Pakete, &[tree], 19 * rows);
-    cases.ask_lent_near(Violations, &[tree, value], 2 * rows);
+    ask_verdicts(cases, tree, value, citations);
+}
+
+/// Asks verdicts with a buffer that holds every list, or with one of few bytes.
+pub fn ask_verdicts(cases: &mut Cases, tree: &[u8], value: &[u8], citations: usize) {
+    let few = cases.random.below(12);
+    let length = *cases.random.pick(&[2 * citations, few]);
+    cases.ask_lent(Verdicts, &[tree, value], length);
 }
 
 /// Random answers, equal for equal texts; 4 is rare.
@@ -169,14 +175,13 @@ fn ask_each(cases: &mut Cases, expr: &Expr) {
         }
     }
     for value in ["0", "-1", "202603292200+00", "202607012200draft+00"] {
-        cases.ask(Truth, &[&tree, value.as_bytes()]);
         for room in 0..=4 {
-            cases.ask(Violations, &[&tree, value.as_bytes(), &[0xAA; 4][..room]]);
+            cases.ask(Verdicts, &[&tree, value.as_bytes(), &[0xAA; 4][..room]]);
         }
     }
 }
 
-/// Violations of every tree of three citations with a choice below the root: the values hold some of the conditions and violate
+/// Verdicts on every tree of three citations with a choice below the root: the values hold some of the conditions and violate
 /// others, and the buffers reach from too short to longer than needed.
 fn choices_below_the_root(cases: &mut Cases) {
     const CITED: [&str; 6] = ["902", "903", "931", "951", "900", "UB1"];
@@ -187,7 +192,7 @@ fn choices_below_the_root(cases: &mut Cases) {
         let tree = encode(&filled(&shape, &mut texts));
         for value in ["0", "202607012200+00", "202607010400+00", "202607012200draft+00"] {
             for room in 0..=7 {
-                cases.ask(Violations, &[&tree, value.as_bytes(), &[0xAA; 7][..room]]);
+                cases.ask(Verdicts, &[&tree, value.as_bytes(), &[0xAA; 7][..room]]);
             }
         }
     }
@@ -230,9 +235,10 @@ fn every_answer(cases: &mut Cases, tree: &[u8], leaves: usize, parts: usize) {
     }
 }
 
-/// Small trees over citations that hold, are violated, unregistered or no format.
+/// Small trees over citations that hold, are violated, unregistered or no format, each with a buffer that holds its list, and
+/// with one that may be too short.
 fn small_verdicts(cases: &mut Cases) {
-    if !cases.knows_any(&[Truth, Violations]) {
+    if !cases.knows(Verdicts) {
         return;
     }
     for leaves in 1..=4usize {
@@ -245,8 +251,10 @@ fn small_verdicts(cases: &mut Cases) {
                 let chosen = digits(chosen, 4, leaves);
                 let mut texts = chosen.iter().map(|c| ["902", "903", "950", "1"][*c].to_owned());
                 let bytes = encode(&filled(&shape, &mut texts));
-                cases.ask(Truth, &[&bytes, b"5"]);
-                cases.ask_lent_near(Violations, &[&bytes, b"5"], 2 * leaves);
+                let (more, less) = (cases.random.below(4), cases.random.below(2 * leaves));
+                for length in [2 * leaves + more, less] {
+                    cases.ask_lent(Verdicts, &[&bytes, b"5"], length);
+                }
             }
         }
     }
@@ -282,15 +290,15 @@ fn buffers(cases: &mut Cases) {
         for length in 0..60 {
             cases.ask_lent(Pakete, &[&tree], length);
             cases.ask_lent(Print, &[&tree], length);
-            cases.ask_lent(Violations, &[&tree, b"7"], length);
-            cases.ask_lent(Violations, &[&tree, b"1"], length);
-            cases.ask_lent(Violations, &[&tree, b"\xff"], length);
-            cases.ask_lent(Violations, &[&tree[..9], b"1"], length);
+            for value in [&b"7"[..], b"1", b"\xff"] {
+                cases.ask_lent(Verdicts, &[&tree, value], length);
+            }
+            cases.ask_lent(Verdicts, &[&tree[..9], b"1"], length);
             cases.ask_lent(Print, &[&tree[..9]], length);
             cases.ask_lent(Pakete, &[&tree[..9]], length);
         }
         cases.ask_lent_around(Print, &[&tree], 4_343);
-        cases.ask_lent_around(Violations, &[&tree, &[b'7'; LONGEST_VALUE]], 512);
+        cases.ask_lent_around(Verdicts, &[&tree, &[b'7'; LONGEST_VALUE]], 512);
     }
 }
 
@@ -388,10 +396,9 @@ fn ask_damaged(cases: &mut Cases, tree: &[u8]) {
     cases.ask(Tree, &[tree]);
     if cases.random.one_in(6) {
         cases.ask(Cited, &[tree]);
-        cases.ask(Truth, &[tree, b"5"]);
         cases.ask_lent_near(Print, &[tree], 30);
         cases.ask_lent_near(Pakete, &[tree], 19);
-        cases.ask_lent_near(Violations, &[tree, b"5"], 4);
+        ask_verdicts(cases, tree, b"5", 8);
     }
 }
 
@@ -455,7 +462,8 @@ mod tests {
     use super::*;
     use crate::asked::ASKED;
     use crate::model::answer;
-    use crate::oracle::{Origin, ask};
+    use crate::oracle::{Answer, Origin, ask};
+    use std::collections::{BTreeMap, BTreeSet};
 
     #[test]
     fn counts_of_shapes() {
@@ -473,16 +481,70 @@ mod tests {
                     digits(chosen, 3, 4).into_iter().map(|one| ["902", "903", "951"][one].to_owned());
                 let tree = encode(&filled(&shape, &mut texts));
                 let fields: [&[u8]; 3] = [&tree, b"0", &[0xAA; 8]];
-                let (original, model) = (ask(Violations, &fields).0, answer(Violations, &fields));
-                let (due, whose) = ASKED.ask(Violations, &fields).expect("an answer");
+                let (original, model) = (ask(Verdicts, &fields).0, answer(Verdicts, &fields));
+                let (due, whose) = ASKED.ask(Verdicts, &fields).expect("an answer");
                 assert_eq!(Some(&due), model.as_ref());
                 let taken_out = matches!(whose, Origin::Model(_));
                 assert_eq!(taken_out, operands(&shape).iter().any(has_choice), "{shape:?}");
-                assert!(taken_out || due == original, "{shape:?}, {chosen}");
-                differ += usize::from(due != original);
+                let ([ours, theirs], list) = beside(&due, &original);
+                assert!(ours == theirs && (taken_out || !list), "{shape:?}, {chosen}");
+                differ += usize::from(list);
             }
         }
         assert!(differ > 1_000, "{differ}");
+    }
+
+    /// The truths of two answers, and whether their lists differ.
+    fn beside(model: &Answer, original: &Answer) -> ([u8; 2], bool) {
+        let [model, original] = [model, original].map(|answer| answer.as_ref().expect("room"));
+        ([model, original].map(|(words, _)| words.as_bytes()[3] - b'0'), model.1 != original.1)
+    }
+
+    /// Whether a tree cites UB1 beside a value that is not in full form, whether it cites 900, and whether a choice is below its root.
+    fn marks(expr: &Expr, value: &str) -> [bool; 3] {
+        let cites = |text| expr.cited().contains(&text);
+        [cites("UB1") && value.contains("draft"), cites("900"), operands(expr).iter().any(has_choice)]
+    }
+
+    /// The truths that are met of the model and of the original, by what changes them.
+    fn truths(boundary: bool, nine_hundred: bool) -> BTreeSet<[u8; 2]> {
+        let lower = if boundary { &[[0, 1], [0, 2], [1, 2]][..] } else { &[] };
+        let higher = if nine_hundred { &[[2, 1]][..] } else { &[] };
+        [&[[0, 0], [1, 1], [2, 2]], lower, higher].concat().into_iter().collect()
+    }
+
+    /// In small trees 900 changes truths alone, a choice below the root lists alone, and UB1 both, but only beside a value that is
+    /// not in full form. Each combination has a rule of its own.
+    #[test]
+    fn verdicts_differ_by_what_is_cited_and_chosen() {
+        let mut found: BTreeMap<_, (BTreeSet<_>, BTreeSet<_>, bool)> = BTreeMap::new();
+        for (shape, chosen) in
+            (1..=4).flat_map(shapes).flat_map(|shape| (0..125).map(move |n| (shape.clone(), n)))
+        {
+            let cited = ["931", "903", "951", "900", "UB1"];
+            let mut texts = digits(chosen, 5, 4).into_iter().map(|one| cited[one].to_owned());
+            let expr = filled(&shape, &mut texts);
+            let tree = encode(&expr);
+            for value in ["202607012200+00", "202607012200draft+00"] {
+                let fields: [&[u8]; 3] = [&tree, value.as_bytes(), &[0xAA; 8]];
+                let (model, whose) = ASKED.ask(Verdicts, &fields).expect("an answer");
+                let (both, differ) = beside(&model, &ask(Verdicts, &fields).0);
+                let (rules, pairs, lists) = found.entry(marks(&expr, value)).or_default();
+                rules.insert(if let Origin::Model(reason) = whose { reason } else { "the original" });
+                pairs.insert(both);
+                *lists |= differ;
+            }
+        }
+        for ([boundary, nine_hundred, choice], (rules, pairs, lists)) in &found {
+            assert_eq!(rules.len(), 1, "{rules:?}");
+            assert_eq!(
+                (pairs, *lists),
+                (&truths(*boundary, *nine_hundred), *boundary || *choice),
+                "{rules:?}"
+            );
+        }
+        let rules: BTreeSet<_> = found.values().flat_map(|(rules, ..)| rules).collect();
+        assert_eq!((found.len(), rules.len()), (8, 8));
     }
 
     fn has_choice(expr: &Expr) -> bool {

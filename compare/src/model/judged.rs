@@ -1,6 +1,6 @@
-//! Presence, package rows, format truth and violations of a tree (docs/SEMANTICS.md). The model's own are the kinds, which
-//! violations are listed, and that a day boundary is written in full form; what else a condition says of a value by itself,
-//! and the bounds of a Paket's text, the original is asked.
+//! Presence, package rows and verdicts of a tree (docs/SEMANTICS.md). The model's own are the kinds, which violations are
+//! listed, and that a day boundary is written in full form; what else a condition says of a value by itself, and the bounds of
+//! a Paket's text, the original is asked.
 
 use super::is_boundary;
 use super::kinds::{Kind, kind};

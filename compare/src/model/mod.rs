@@ -23,8 +23,7 @@ pub fn answer(function: Function, fields: &[&[u8]]) -> Option<Answer> {
         Function::Cited => cited(first),
         Function::Eval => presence(first, fields[1]),
         Function::Pakete => tree(first).and_then(|node| listed(&judged::pakete(&node))),
-        Function::Truth => format_truth(first, fields[1]),
-        Function::Violations => violations(first, fields[1]),
+        Function::Verdicts => verdicts(first, fields[1]),
         Function::Evaluate if is_boundary(first) && is_other_form(fields[1]) => said('V'),
         Function::Paket | Function::Name | Function::Evaluate | Function::Registered if is_900(first) => {
             alone(function, fields)
@@ -39,9 +38,9 @@ pub fn answer(function: Function, fields: &[&[u8]]) -> Option<Answer> {
     })
 }
 
-/// Whether the model lists the same violations of two trees.
-pub fn listed_alike(a: &[u8], b: &[u8], value: &str) -> bool {
-    violations(a, value.as_bytes()) == violations(b, value.as_bytes())
+/// Whether the model's verdicts on two trees are the same.
+pub fn judged_alike(a: &[u8], b: &[u8], value: &str) -> bool {
+    verdicts(a, value.as_bytes()) == verdicts(b, value.as_bytes())
 }
 
 /// Whether the bytes are a number equal to 900.
@@ -113,13 +112,11 @@ fn presence(bytes: &[u8], answers: &[u8]) -> Answer {
     said(judged::presence(&node, answers)? as u8)
 }
 
-fn format_truth(bytes: &[u8], of: &[u8]) -> Answer {
+/// The format truth, how many violations there are, and their numbers.
+fn verdicts(bytes: &[u8], of: &[u8]) -> Answer {
     let node = tree(bytes)?;
-    said(judged::format_truth(&node, value(of)?) as u8)
-}
-
-fn violations(bytes: &[u8], of: &[u8]) -> Answer {
-    let node = tree(bytes)?;
-    let numbers = judged::violations(&node, value(of)?);
-    listed(&numbers.iter().map(|number| (*number as u16).to_le_bytes().to_vec()).collect::<Vec<_>>())
+    let value = value(of)?;
+    let (truth, numbers) = (judged::format_truth(&node, value), judged::violations(&node, value));
+    let list = numbers.iter().flat_map(|number| (*number as u16).to_le_bytes()).collect();
+    Ok((format!("ok {} {}", truth as u8, numbers.len()), list))
 }

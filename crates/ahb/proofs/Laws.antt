@@ -1,4 +1,4 @@
--- An answer's number and the lent bytes, by the mode. Assumes nothing.
+-- An answer's number and the lent bytes, those of reading by its mode. Assumes nothing.
 use Rattle.std.specs.Prelude.{Result, Ok, Err, MatchResult}
 use mathlib.Core.Path.{◌≡◌, refl, sym, ap, subst, ◌∙◌}
 use mathlib.Core.List.{List}
@@ -13,13 +13,9 @@ use Rattle.refusal.specs.Refusals.{number_of}
 use Rattle.refusal.specs.Known.{Among}
 use Rattle.refusal.specs.Result.{unless, then, map_ok}
 use Rattle.refusal.specs.declared.Refusal.TheVariants.{NoRoom}
-use Rattle.citation.specs.declared.Truth.{Truth}
-use Rattle.citation.specs.Truths.{truth_number}
 use Rattle.grammar.specs.Outcome.{Outcome, answer_of, written_of, StatusSaid, parse_answer, status_answer}
-use Rattle.grammar.proofs.Outcome.{answer_fits, written_fits}
-use Rattle.semantics.specs.Answers.{truth_answer, violations_answer}
-use Rattle.ahb.specs.Numbers.{accepted_from, answer_number, expression, status, expression_number, status_number, said_number, read_number, verdict_number}
-use Rattle.ahb.specs.Answers.{said_by, truth_written, read_answer, verdicts_answer}
+use Rattle.ahb.specs.Numbers.{accepted_from, answer_number, expression, status, expression_number, status_number, said_number, read_number}
+use Rattle.ahb.specs.Answers.{said_by, read_answer}
 
 -- the number of what was accepted, and a refusal's own, are the answer's
 pub answered : {A : Type 0} (least : ℕ) (number : A → ℕ) (P : A → Type 0) (r : ℕ) (a : Result A Refusal)
@@ -50,18 +46,6 @@ module _ {A B : Type 0} (f : A → B) where
   said_written (Ok w) old = refl
   said_written (Err k) old = refl
 
--- a truth needs no room
-truth_number_lem : (r : Result Truth Refusal) (n : ℕ) → verdict_number (answer_of (map_ok truth_written r) n) ≡ answer_number accepted_from truth_number r
-unfolding answer_of map_ok then
-truth_number_lem (Ok v) n = ap (λ x. verdict_number x) (answer_fits (truth_written v) n (omega arith))
-truth_number_lem (Err k) n = refl
-
--- and writes nothing
-truth_written_lem : (r : Result Truth Refusal) (old : List ℕ) → written_of (map_ok truth_written r) old ≡ old
-unfolding written_of map_ok
-truth_written_lem (Ok v) old = written_fits (truth_written v) old (omega arith)
-truth_written_lem (Err k) old = refl
-
 module _ (mode : ℕ) (s old new : List ℕ) (r : ℕ) where
   -- an expression
   pub read-expression : (a : Result ℕ Refusal) → mode ≡ 0 → r ≡ answer_number accepted_from expression_number a → a ≡ answer_of (parse_answer s) (length old) → new ≡ written_of (parse_answer s) old
@@ -82,23 +66,3 @@ module _ (mode : ℕ) (s old new : List ℕ) (r : ℕ) where
         value = e ∙ ap (λ x. answer_number accepted_from status_number x) h ∙ sym (said_number_lem status accepted_from said_number (status_answer s) (length old));
         out_after = w ∙ sym (said_written status (status_answer s) old);
       }
-
-module _ (mode : ℕ) (tree v old : List ℕ) (r : ℕ) where
-  -- the truth
-  pub verdict-truth : (a : Result Truth Refusal) → mode ≡ 0 → r ≡ answer_number accepted_from truth_number a → a ≡ truth_answer tree v
-      → record { value : r ≡ verdict_number (answer_of (verdicts_answer mode tree v) (length old)); list_after : old ≡ written_of (verdicts_answer mode tree v) old }
-  unfolding verdicts_answer
-  verdict-truth a m e h =
-      rw (eq-eqb mode 0 m) record {
-        value = e ∙ ap (λ x. answer_number accepted_from truth_number x) h ∙ sym (truth_number_lem (truth_answer tree v) (length old));
-        list_after = sym (truth_written_lem (truth_answer tree v) old);
-      }
-
-  -- the violations
-  pub verdict-violations : (new : List ℕ) (a : Result ℕ Refusal) → (mode ≡ 0 → ⊥) → r ≡ verdict_number a → a ≡ answer_of (violations_answer tree v) (length old) → new ≡ written_of (violations_answer tree v) old
-      → record { value : r ≡ verdict_number (answer_of (verdicts_answer mode tree v) (length old)); list_after : new ≡ written_of (verdicts_answer mode tree v) old }
-  unfolding verdicts_answer
-  verdict-violations new a m e h w = rw (ne_eqb mode 0 m) record {
-    value = e ∙ ap (λ x. verdict_number x) h;
-    list_after = w;
-  }

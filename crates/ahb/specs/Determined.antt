@@ -4,17 +4,18 @@ use Rattle.std.proofs.Common.{ap, ◌∙◌, arith}
 use Rattle.laws.specs.Tests.{cond_both}
 use Rattle.refusal.specs.declared.Refusal.{Refusal}
 use Rattle.refusal.specs.Refusals.{number_injective}
-use Rattle.refusal.specs.Known.{Among, Known, last_refusal, named_most, among_known, map-among, map_known}
+use Rattle.refusal.specs.Known.{Among, last_refusal, named_most, map-among}
 use Rattle.status.specs.declared.StatusKind.{StatusKind}
 use Rattle.status.specs.declared.StatusKind.TheVariants.{Muss, Soll, Kann, X, M, S, K}
 use Rattle.status.specs.Status.{code_of, code_injective}
+use Rattle.citation.specs.declared.Truth.{Truth}
 use Rattle.citation.specs.Truths.{truth_number, truth_number_injective}
 use Rattle.grammar.specs.Outcome.{answer_of, StatusSaid, parse_answer, status_answer}
-use Rattle.semantics.specs.Answers.{eval_answer, truth_answer, violations_answer}
-use Rattle.semantics.proofs.Known.{eval_known, truth_known}
-use Rattle.ahb.specs.Numbers.{accepted_from, present_from, answer_number, ReadSaid, expression, status, said_number, read_number, presence_number, verdict_number}
-use Rattle.ahb.specs.Answers.{said_by, truth_written, read_answer, verdicts_answer}
-use Rattle.ahb.specs.Sizes.{Short, ShortStatus, CountFew, answer_among, parse-outcome, status_outcome_lem, violations-outcome}
+use Rattle.semantics.specs.Answers.{eval_answer, verdicts_answer}
+use Rattle.semantics.proofs.Known.{eval_known}
+use Rattle.ahb.specs.Numbers.{accepted_from, present_from, answer_number, ReadSaid, expression, status, said_number, read_number, presence_number, judged_number, verdicts_number}
+use Rattle.ahb.specs.Answers.{said_by, read_answer}
+use Rattle.ahb.specs.Sizes.{Short, ShortStatus, CountFew, answer_among, parse-outcome, status_outcome_lem, verdicts-among}
 
 module _ {A : Type 0} (least : ℕ) (number : A → ℕ) (P : A → Type 0) (same : (a b : A) → P a → P b → number a ≡ number b → a ≡ b) where
   -- a number over the refusals' tells the answer, if the answers' numbers do
@@ -83,16 +84,14 @@ pub presence_determined : (tree tree' answers answers' : List ℕ)
 presence_determined tree tree' answers answers' =
     answer_number_injective present_from truth_number (λ _. Unit {0}) (λ a b _ _. truth_number_injective a b) (omega arith) _ _ (eval_known tree answers) (eval_known tree' answers')
 
-verdicts_known : (mode : ℕ) (tree value : List ℕ) → Known (verdicts_answer mode tree value)
-unfolding verdicts_answer
-verdicts_known mode tree value =
-    cond_both Known (eqb mode 0) _ _ (λ _. map_known truth_written (truth_answer tree value) (truth_known tree value)) λ _. among_known CountFew (violations_answer tree value) (violations-outcome tree value)
+judged_number_injective : (a b : Truth × ℕ) → CountFew a → CountFew b → judged_number a ≡ judged_number b → a ≡ b
+judged_number_injective (v, m) (w, n) p q h =
+    let code : truth_number v ≡ truth_number w = omega (arith, h, p, q) in
+    let count : m ≡ n = omega (arith, h, code) in
+    ap (λ x. (x, m)) (truth_number_injective v w code) ∙ ap (λ n. (w, n)) count
 
--- what `ahb_verdicts` answers tells the number of the truth, or the count, as the mode asks
-pub verdicts_determined : (mode mode' : ℕ) (tree tree' value value' : List ℕ) (n n' : ℕ)
-    → verdict_number (answer_of (verdicts_answer mode tree value) n) ≡ verdict_number (answer_of (verdicts_answer mode' tree' value') n')
-    → answer_of (verdicts_answer mode tree value) n ≡ answer_of (verdicts_answer mode' tree' value') n'
-verdicts_determined mode mode' tree tree' value value' n n' =
-    answer_number_injective accepted_from (λ k. k) (λ _. Unit {0}) (λ a b _ _ h. h) (omega arith) _ _
-    (answer_among (λ _. Unit {0}) (verdicts_answer mode tree value) n (verdicts_known mode tree value))
-    (answer_among (λ _. Unit {0}) (verdicts_answer mode' tree' value') n' (verdicts_known mode' tree' value'))
+-- what `ahb_verdicts` answers tells the truth and the count, or the refusal
+pub verdicts_determined : (tree tree' value value' : List ℕ) (n n' : ℕ) → verdicts_number (answer_of (verdicts_answer tree value) n) ≡ verdicts_number (answer_of (verdicts_answer tree' value') n')
+    → answer_of (verdicts_answer tree value) n ≡ answer_of (verdicts_answer tree' value') n'
+verdicts_determined tree tree' value value' n n' =
+    answer_number_injective accepted_from judged_number CountFew judged_number_injective (omega arith) _ _ (verdicts-among tree value n) (verdicts-among tree' value' n')

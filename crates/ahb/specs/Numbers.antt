@@ -28,7 +28,7 @@ abbrev pub answer_number : {A : Type 0} → (least : ℕ) → (A → ℕ) → Re
 answer_number least number (Ok a) = least + number a
 answer_number least number (Err why) = number_of why
 
--- a code and a length
+-- a code, and a length or a count
 abbrev pub coded : (code length : ℕ) → ℕ
 coded code length = code_step * code + length
 
@@ -59,6 +59,10 @@ read_number r = answer_number accepted_from said_number r
 abbrev pub presence_number : Result Truth Refusal → ℕ
 presence_number r = answer_number present_from truth_number r
 
--- what `ahb_verdicts` answers, the truth's number or the count
-abbrev pub verdict_number : Result ℕ Refusal → ℕ
-verdict_number r = answer_number accepted_from (λ n. n) r
+-- the number of a format truth and a count of violations
+abbrev pub judged_number : Truth × ℕ → ℕ
+judged_number (v, n) = coded (truth_number v) n
+
+-- what `ahb_verdicts` answers
+abbrev pub verdicts_number : Result (Truth × ℕ) Refusal → ℕ
+verdicts_number r = answer_number accepted_from judged_number r

@@ -5,6 +5,7 @@ use Rattle.refusal.specs.Result.{unless, unless_ok}
 use Rattle.refusal.specs.declared.Refusal.TheVariants.{NoRoom, NotATree}
 use Rattle.refusal.specs.Known.{Among, unless-among, known_among, map-among, then-among}
 use Rattle.utf8.specs.Limits.{value_limit, admitted}
+use Rattle.citation.specs.declared.Truth.{Truth}
 use Rattle.grammar.specs.Expr.{Expr}
 use Rattle.grammar.specs.Reading.{citation_limit, Fits, reading}
 use Rattle.grammar.proofs.Reading.{reading_given}
@@ -16,7 +17,7 @@ use Rattle.grammar.specs.Outcome.{Written, Outcome, answer_of, StatusSaid, state
 use Rattle.grammar.proofs.Known.{admitted-among, reading_known, status_known, tree_of_known}
 use Rattle.semantics.specs.Truth.{counts_on}
 use Rattle.semantics.proofs.Sizes.{violations_fit}
-use Rattle.semantics.specs.Answers.{list_outcome, violations_answer}
+use Rattle.semantics.specs.Answers.{verdicts_outcome, verdicts_answer}
 use Rattle.tree.proofs.Walks.{root}
 use Rattle.ahb.specs.Numbers.{code_step}
 
@@ -69,10 +70,6 @@ status_outcome_lem s = map-among (λ w. ShortStatus w.answer) stated_bytes (stat
 pub status_among : (s : List ℕ) (n : ℕ) → Among ShortStatus (answer_of (status_answer s) n)
 status_among s n = answer_among ShortStatus (status_answer s) n (status_outcome_lem s)
 
--- no more than a tree has citations
-abbrev pub Few : ℕ → Type 0
-Few n = n ≤ citation_limit
-
 -- a tree is that of an expression that fits the limits
 pub tree_fits : (b : List ℕ) (e : Expr) → tree_of b ≡ Ok e → Fits e
 unfolding tree_of
@@ -82,21 +79,23 @@ tree_fits b e h =
     let same : tree_at b 0 ≡ e = cc in
     subst Fits same (root b t.0).fits
 
--- with such a count
-abbrev pub CountFew : Written ℕ → Type 0
-CountFew w = Few w.answer
+-- a truth, and no more violations than a tree has citations
+abbrev pub CountFew : Truth × ℕ → Type 0
+CountFew x = x.1 ≤ citation_limit
 
-abbrev judged_by : List ℕ → Expr → Outcome ℕ
-judged_by value e = admitted value_limit value (list_outcome value e)
+abbrev WrittenFew : Written (Truth × ℕ) → Type 0
+WrittenFew w = CountFew w.answer
 
--- the count of violations
-pub violations-outcome : (b value : List ℕ) → Among CountFew (violations_answer b value)
-unfolding violations_answer
-violations-outcome b value = then-among CountFew (tree_of b) (judged_by value) (known_among (λ e. Among CountFew (judged_by value e)) (tree_of b) (tree_of_known b) by)
+abbrev judged_by : List ℕ → Expr → Outcome (Truth × ℕ)
+judged_by value e = admitted value_limit value (verdicts_outcome value e)
+
+judged_few : (b value : List ℕ) → Among WrittenFew (verdicts_answer b value)
+unfolding verdicts_answer
+judged_few b value = then-among WrittenFew (tree_of b) (judged_by value) (known_among (λ e. Among WrittenFew (judged_by value e)) (tree_of b) (tree_of_known b) by)
   where
-    by : (e : Expr) → tree_of b ≡ Ok e → Among CountFew (judged_by value e)
-    by e h = admitted-among CountFew value_limit value (list_outcome value e) (violations_fit (counts_on value) e (tree_fits b e h))
+    by : (e : Expr) → tree_of b ≡ Ok e → Among WrittenFew (judged_by value e)
+    by e h = admitted-among WrittenFew value_limit value (verdicts_outcome value e) (violations_fit (counts_on value) e (tree_fits b e h))
 
--- as it is answered
-pub violations-among : (b value : List ℕ) (n : ℕ) → Among Few (answer_of (violations_answer b value) n)
-violations-among b value n = answer_among Few (violations_answer b value) n (violations-outcome b value)
+-- so `verdicts` answers
+pub verdicts-among : (b value : List ℕ) (n : ℕ) → Among CountFew (answer_of (verdicts_answer b value) n)
+verdicts-among b value n = answer_among CountFew (verdicts_answer b value) n (judged_few b value)

@@ -6,10 +6,10 @@ ghost use Rattle.std.specs.Prelude.{◌≡◌, ◌+◌, ◌≤◌, length, Match
 ghost use Rattle.std.specs.Result.{ForOk};
 ghost use Rattle.refusal.specs.Refusals.{number_of};
 ghost use Rattle.grammar.specs.Outcome.{answer_of, written_of};
-ghost use Rattle.semantics.specs.Answers.{eval_answer};
-ghost use Rattle.ahb.specs.Numbers.{accepted_from, code_step, coded, status_number, read_number, presence_number, verdict_number};
+ghost use Rattle.semantics.specs.Answers.{eval_answer, verdicts_answer};
+ghost use Rattle.ahb.specs.Numbers.{accepted_from, code_step, coded, status_number, read_number, presence_number, verdicts_number};
 ghost use Rattle.ahb.specs.Sizes.{ShortStatus};
-ghost use Rattle.ahb.specs.Answers.{read_answer, verdicts_answer};
+ghost use Rattle.ahb.specs.Answers.{read_answer};
 
 use reader::{Expr, Status};
 use refusal::Refusal;
@@ -26,12 +26,10 @@ const CODE_STEP: u64 = 65536;
 // The code of an expression, where a status has the code of its word: numbers, since C gets them.
 const EXPRESSION: u8 = 7;
 
-// The mode that reads an expression, and the one that judges the truth: numbers, since C passes them.
+// The mode that reads an expression: a number, since C passes it.
 const EXPRESSION_MODE: u8 = 0;
 
-const TRUTH_MODE: u8 = 0;
-
-// An accepted reading.
+// An accepted answer of a code, and a length or a count.
 fn accepted(code: u8, length: usize) -> u64
     requires { length ≤ code_step }
     ensures { result ≡ accepted_from + coded code length }
@@ -90,19 +88,13 @@ pub fn ahb_presence(tree: &[u8], answers: &[u8]) -> u32
     })
 }
 
-// Judges a value by a tree. Accepted: 2^32, and by mode 0 the number of the format truth, the list not looked
-// at; by any other mode the count of the violations, whose numbers then begin the list.
-pub fn ahb_verdicts(tree: &[u8], value: &[u8], mode: u8, list: &mut [u8]) -> u64
-    ensures value { result ≡ verdict_number (answer_of (verdicts_answer mode tree.now value.now) (length list.old)) }
-    ensures list_after { list.new ≡ written_of (verdicts_answer mode tree.now value.now) list.old }
+// Judges a value by a tree. Accepted: 2^32, and 2^16 times the number of the format truth, and the count of the
+// violations, whose numbers then begin the list.
+pub fn ahb_verdicts(tree: &[u8], value: &[u8], list: &mut [u8]) -> u64
+    ensures value { result ≡ verdicts_number (answer_of (verdicts_answer tree.now value.now) (length list.old)) }
+    ensures list_after { list.new ≡ written_of (verdicts_answer tree.now value.now) list.old }
 {
-    if mode == TRUTH_MODE {
-        return answer_number(verdicts::truth(tree, value), |truth| {
-            ACCEPTED + u64::from(u8::from(truth))
-        });
-    }
-    answer_number(
-        verdicts::violations(tree, value, list),
-        |count| ACCEPTED + count as u64,
-    )
+    answer_number(verdicts::verdicts(tree, value, list), |(truth, count)| {
+        accepted(u8::from(truth), count)
+    })
 }

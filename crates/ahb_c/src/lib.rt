@@ -5,9 +5,9 @@
 
 ghost use Rattle.std.specs.Prelude.{◌≡◌, length};
 ghost use Rattle.grammar.specs.Outcome.{answer_of, written_of};
-ghost use Rattle.semantics.specs.Answers.{eval_answer};
-ghost use Rattle.ahb.specs.Numbers.{read_number, presence_number, verdict_number};
-ghost use Rattle.ahb.specs.Answers.{read_answer, verdicts_answer};
+ghost use Rattle.semantics.specs.Answers.{eval_answer, verdicts_answer};
+ghost use Rattle.ahb.specs.Numbers.{read_number, presence_number, verdicts_number};
+ghost use Rattle.ahb.specs.Answers.{read_answer};
 
 // Reads a text into a tree: an expression by mode 0, a status by any other. Accepted: 2^32, and 2^16 times the
 // code of the status word, or 7 for an expression, and the length of the tree; 0 for a word alone.
@@ -27,12 +27,12 @@ pub extern "C" fn ahb_presence(tree: &[u8], answers: &[u8]) -> u32
     ahb::ahb_presence(tree, answers)
 }
 
-// Judges a value by a tree. Accepted: 2^32, and by mode 0 the number of the format truth, the list not looked
-// at; by any other mode the count of the violations, whose numbers then begin the list.
+// Judges a value by a tree. Accepted: 2^32, and 2^16 times the number of the format truth, and the count of the
+// violations, whose numbers then begin the list.
 #[unsafe(no_mangle)]
-pub extern "C" fn ahb_verdicts(tree: &[u8], value: &[u8], mode: u8, list: &mut [u8]) -> u64
-    ensures value { result ≡ verdict_number (answer_of (verdicts_answer mode tree.now value.now) (length list.old)) }
-    ensures list_after { list.new ≡ written_of (verdicts_answer mode tree.now value.now) list.old }
+pub extern "C" fn ahb_verdicts(tree: &[u8], value: &[u8], list: &mut [u8]) -> u64
+    ensures value { result ≡ verdicts_number (answer_of (verdicts_answer tree.now value.now) (length list.old)) }
+    ensures list_after { list.new ≡ written_of (verdicts_answer tree.now value.now) list.old }
 {
-    ahb::ahb_verdicts(tree, value, mode, list)
+    ahb::ahb_verdicts(tree, value, list)
 }

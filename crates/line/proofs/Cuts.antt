@@ -12,7 +12,7 @@ use borrow.Author.Tests.{leb-true, leb-false, lt-leb, ne_eqb}
 use Rattle.refusal.specs.Result.{unless, then, map_ok}
 use Rattle.refusal.specs.declared.Refusal.{Refusal}
 use Rattle.refusal.specs.declared.Refusal.TheVariants.{WrongAnswers}
-use Rattle.utf8.specs.Utf8.{is_utf8, decode}
+use Rattle.utf8.specs.Utf8.{decode}
 use Rattle.utf8.specs.Limits.{text_limit, value_limit, admitted}
 use Rattle.utf8.proofs.Limits.{too_long}
 use Rattle.citation.specs.declared.Truth.{Truth}
@@ -26,6 +26,7 @@ use Rattle.grammar.proofs.Theorems.{read_fits, tree_of_bytes}
 use Rattle.semantics.specs.Truth.{truth}
 use Rattle.semantics.specs.Presence.{answers_fit}
 use Rattle.semantics.specs.Answers.{presence_by, eval_and_truth_answer}
+use Rattle.verdicts.proofs.Laws.{map_tested}
 use Rattle.line.specs.Sizes.{kept_status, kept_answers, kept_value}
 use Rattle.line.specs.Lines.{answer_bytes, tree_lines, judged_lines, stated_lines, shown, lines}
 use Rattle.line.proofs.Texts.{answers_length}
@@ -44,15 +45,6 @@ cut_status : (s : List ℕ) → status_reading (take kept_status s) ≡ status_r
 unfolding status_reading
 cut_status s = cut-admitted text_limit s (λ x. of_words (words (decode x)))
 
-map-unless : {A B : Type 0} (f : A → B) (t : Bool) (why : Refusal) (r : Result A Refusal) → map_ok f (unless t why r) ≡ unless t why (map_ok f r)
-unfolding map_ok
-map-unless f true why r = refl
-map-unless f false why r = refl
-
-map-admitted : {A B : Type 0} (f : A → B) (most : ℕ) (t : List ℕ) (r : Result A Refusal) → map_ok f (admitted most t r) ≡ admitted most t (map_ok f r)
-unfolding admitted
-map-admitted f most t r = map-unless f (leb (length t) most) _ _ ∙ ap (unless (leb (length t) most) _) (map-unless f (is_utf8 t) _ r)
-
 unfit : (e : Expr) (c : List ℕ) → Fits e → citation_limit < length c → answers_fit e c ≡ false
 unfolding answers_fit
 unfit e c f h = rw (ne_eqb (length c) (count e) (λ q. omega (arith, q, h, f.few)))
@@ -65,9 +57,7 @@ module _ (k : StatusKind) (e : Expr) (fit : Fits e) where
   judged_is : (c v : List ℕ) → judged_lines k (bytes_of e) e c v ≡ unless (answers_fit e c) WrongAnswers (admitted value_limit v (said c v))
   unfolding judged_lines eval_and_truth_answer then
   judged_is c v =
-      let f : Truth × Truth → List ℕ = λ both. tree_lines k e v both.0 both.1 in
-      let r : Result (Truth × Truth) Refusal = map_ok (λ p. (p, truth v e)) (presence_by c e) in
-      rw (tree_of_bytes e fit) (map-unless f (answers_fit e c) WrongAnswers (admitted value_limit v r) ∙ ap (unless (answers_fit e c) WrongAnswers) (map-admitted f value_limit v r))
+      rw (tree_of_bytes e fit) (map_tested (λ (both : Truth × Truth). tree_lines k e v both.0 both.1) (answers_fit e c) v (map_ok (λ p. (p, truth v e)) (presence_by c e)))
 
   cut-value : (c v : List ℕ) → judged_lines k (bytes_of e) e c (take kept_value v) ≡ judged_lines k (bytes_of e) e c v
   cut-value c v = judged_is c (take kept_value v) ∙ ap (unless (answers_fit e c) WrongAnswers) (cut-admitted value_limit v (said c)) ∙ sym (judged_is c v)

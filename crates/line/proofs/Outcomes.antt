@@ -1,5 +1,6 @@
 -- What the answers of reading, printing, packages and verdicts mean for the lines. Assumes nothing.
 use Rattle.std.specs.Prelude.{Result, Ok, Err, Option, Some, None}
+use Rattle.std.specs.Result.{result_unwrap_or}
 use mathlib.Core.Path.{◌≡◌, refl, sym, ap, ◌∙◌, subst}
 use mathlib.Core.List.{List, ◌++◌}
 use mathlib.Core.Bool.{true}
@@ -7,13 +8,12 @@ use Prim.Native.Nat.{ℕ, ◌*◌, ◌≤◌, ◌<◌}
 use native.Mathlib.Omega.{arith}
 use lib.ListN.{length, take, drop, length-append}
 use lib.Seq.{take-append_seam}
-use Rattle.refusal.specs.Result.{unless, then, map_ok, err≢ok, unless_ok}
+use Rattle.refusal.specs.Result.{then, map_ok, err≢ok}
 use Rattle.refusal.specs.Refusals.{number_of}
 use Rattle.refusal.specs.declared.Refusal.{Refusal}
 use Rattle.refusal.specs.declared.Refusal.TheVariants.{NoRoom, WrongAnswers}
-use Rattle.utf8.specs.Limits.{value_limit, admitted}
-use Rattle.utf8.proofs.Limits.{admitted_ok, fits}
 use Rattle.citation.specs.declared.Truth.{Truth}
+use Rattle.citation.specs.declared.Truth.TheVariants.{False}
 use Rattle.status.specs.declared.StatusKind.{StatusKind}
 use Rattle.grammar.specs.Expr.{Expr, citations, concat}
 use Rattle.grammar.specs.Print.{printed}
@@ -24,12 +24,11 @@ use Rattle.grammar.specs.Theorems.{after_status}
 use Rattle.grammar.proofs.Theorems.{read_fits, print_short, few_bytes, is_tree_lem, tree_of_bytes}
 use Rattle.grammar.specs.Outcome.{Written, Outcome, answer_of, written_of, with_length, display_answer, stated_bytes, status_answer, StatusSaid}
 use Rattle.grammar.proofs.Outcome.{answer_fits, written_fits, answer_short, written_short}
-use Rattle.semantics.specs.Presence.{answers_fit}
 use Rattle.semantics.specs.Truth.{counts_on, truth}
 use Rattle.semantics.specs.Violations.{violations, number_bytes}
 use Rattle.semantics.specs.Packages.{paket_size, pakete}
 use Rattle.semantics.proofs.Sizes.{numbers_length, rows_length}
-use Rattle.semantics.specs.Answers.{presence_by, numbered, rowed, pakete_answer, violations_answer, eval_and_truth_answer}
+use Rattle.semantics.specs.Answers.{with_numbers, verdicts_outcome, rowed, pakete_answer, eval_and_truth_answer}
 use Rattle.fields.specs.Appended.{Appended}
 use Rattle.fields.proofs.Appends.{same, whole}
 use Rattle.tree.proofs.Walks.{root}
@@ -37,7 +36,7 @@ use Rattle.presence.proofs.Answers.{fit_count}
 use Rattle.verdicts.proofs.Laws.{both_unfit}
 use Rattle.line.specs.Sizes.{longest_rows, longest_list, longest_named}
 use Rattle.line.specs.Lines.{answer_bytes, figures, named, line, alone_lines, tree_lines, judged_lines, stated_lines, shown, lines, report_answer}
-use Rattle.line.specs.Parts.{numbers_from, AllBelow, Admitted}
+use Rattle.line.specs.Parts.{numbers_from, AllBelow}
 use Rattle.line.proofs.Texts.{answers_length}
 use Rattle.line.proofs.Named.{numbers_got, listed}
 
@@ -89,19 +88,20 @@ module _ (b : List ℕ) (tree : is_tree b ≡ true) where
         let s = settled (pakete_answer b) (rowed (pakete e)) old new o pakete_is (omega (arith, pakete_size.0, pakete_size.1)) f g in
         (s.0, λ n h. (omega (arith, h, pakete_size.1), h))
 
-    module _ (value : List ℕ) (a : Admitted value) where
-      violations_is : violations_answer b value ≡ Ok (numbered (violations value e))
-      unfolding violations_answer then
-      violations_is = rw (root b tree).is (fits value_limit value _ a)
-
-      -- the numbers of the violations
-      pub violations_listed : (o : Result ℕ Refusal) → longest_list ≤ length old → o ≡ answer_of (violations_answer b value) (length old) → new ≡ written_of (violations_answer b value) old
-          → (o ≡ Ok (length (violations value e))) × ((n : ℕ) → n ≡ length (violations value e) → (n ≤ citation_limit) × (numbers_from new n 0 ≡ violations value e))
-      violations_listed o room f g =
-          let ns = violations value e in
-          let l = listed (counts_on value) e (root b tree).fits in
-          let s = settled (violations_answer b value) (numbered ns) old new o violations_is (omega (arith, numbers_length ns, l.few)) f g in
-          (s.0, λ n h. (omega (arith, h, l.few), ap (λ (x : ℕ). numbers_from new x 0) h ∙ numbers_got new (drop (length (number_bytes ns)) old) ns 0 s.1))
+    -- the format truth, and the numbers of the violations
+    pub verdicts_listed : (value : List ℕ) (o : Result (Truth × ℕ) Refusal) → longest_list ≤ length old → o ≡ answer_of (verdicts_outcome value e) (length old) → new ≡ written_of (verdicts_outcome value e) old
+        → (x : Truth × ℕ) → x ≡ result_unwrap_or o (False, 0)
+        → record { truth : x.0 ≡ truth value e; listed : (x.1 ≤ citation_limit) × (numbers_from new x.1 0 ≡ violations value e) }
+    verdicts_listed value o room f g x h =
+        let ns = violations value e in
+        let l = listed (counts_on value) e (root b tree).fits in
+        let s = settled (verdicts_outcome value e) (with_numbers (truth value e) ns) old new o refl (omega (arith, numbers_length ns, l.few)) f g in
+        let is : x ≡ (truth value e, length ns) = h ∙ ap (λ r. result_unwrap_or r (False, 0)) s.0 in
+        let size : x.1 ≡ length ns = ap (λ y. y.1) is in
+        record {
+          truth = ap (λ y. y.0) is;
+          listed = (omega (arith, size, l.few), ap (λ (y : ℕ). numbers_from new y 0) size ∙ numbers_got new (drop (length (number_bytes ns)) old) ns 0 s.1);
+        }
 
   -- what holds of the violations' numbers, by the texts of the tree
   pub violations-small : (value ns : List ℕ) → ns ≡ violations value e → AllBelow (cites b) ns × (length (named (texts_in b) ns) ≤ longest_named) × (named (texts_in b) ns ≡ named (citations e) (violations value e))
@@ -120,7 +120,7 @@ module _ {A : Type 0} {a : A} {Goal : Type 0} where
 pub counted : (r : Result ℕ Refusal) (n m : ℕ) → r ≡ Ok m → r ≡ Ok n → n ≡ m
 counted r n m h k = same_ok (sym k ∙ h)
 
-module _ (k : StatusKind) (b codes value : List ℕ) (tree : is_tree b ≡ true) where
+module _ (k : StatusKind) (b codes value : List ℕ) where
   judged_by_lem : (x : Result (Truth × Truth) Refusal) → eval_and_truth_answer b codes value ≡ x → judged_lines k b (tree_at b 0) codes value ≡ map_ok (λ both. tree_lines k (tree_at b 0) value both.0 both.1) x
   unfolding judged_lines
   judged_by_lem x h = ap (map_ok (λ both. tree_lines k (tree_at b 0) value both.0 both.1)) h
@@ -134,16 +134,6 @@ module _ (k : StatusKind) (b codes value : List ℕ) (tree : is_tree b ≡ true)
   pub judged_done : (p f : Truth) → eval_and_truth_answer b codes value ≡ Ok (p, f) → tree_lines k (tree_at b 0) value p f ≡ shown (judged_lines k b (tree_at b 0) codes value)
   unfolding map_ok
   judged_done p f h = sym (ap shown (judged_by_lem (Ok (p, f)) h))
-
-  -- the value was admitted
-  pub judged-admitted : (p f : Truth) → eval_and_truth_answer b codes value ≡ Ok (p, f) → Admitted value
-  unfolding eval_and_truth_answer then
-  judged-admitted p f h =
-      let e = tree_at b 0 in
-      let r : Result (Truth × Truth) Refusal = map_ok (λ q. (q, truth value e)) (presence_by codes e) in
-      let g : unless (answers_fit e codes) WrongAnswers (admitted value_limit value r) ≡ Ok (p, f) = rw (root b tree).is at h in
-      let u = unless_ok (answers_fit e codes) WrongAnswers (admitted value_limit value r) (p, f) g in
-      (admitted_ok value_limit value r (p, f) u.1).0
 
 -- more letters than there can be citations: 16
 pub too_many : (b answers value : List ℕ) → is_tree b ≡ true → citation_limit < length answers → eval_and_truth_answer b (answer_bytes answers) value ≡ Err WrongAnswers

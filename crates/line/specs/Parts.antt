@@ -1,7 +1,5 @@
 -- The parts of a report while it is written. Assumes nothing.
-use Rattle.std.specs.Prelude.{◌≡◌, List, [], ◌∷◌, ℕ, zero, suc, ◌+◌, ◌≤◌, ◌<◌, true, leb, length}
-use Rattle.utf8.specs.Utf8.{is_utf8}
-use Rattle.utf8.specs.Limits.{value_limit}
+use Rattle.std.specs.Prelude.{List, [], ◌∷◌, ℕ, zero, suc, ◌+◌, ◌≤◌, ◌<◌}
 use Rattle.fields.specs.Appended.{Appended}
 use Rattle.grammar.specs.Bytes.{field}
 
@@ -19,7 +17,3 @@ numbers_from b (suc count) at = field b at ∷ numbers_from b count (at + 2)
 abbrev pub AllBelow : ℕ → List ℕ → Type 0
 AllBelow most [] = Unit {0}
 AllBelow most (n ∷ ns) = (n < most) × AllBelow most ns
-
--- the value is short enough and UTF-8
-abbrev pub Admitted : List ℕ → Type 0
-Admitted value = (leb (length value) value_limit ≡ true) × (is_utf8 value ≡ true)

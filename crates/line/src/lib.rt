@@ -10,13 +10,14 @@ ghost use Rattle.grammar.specs.Print.{printed};
 ghost use Rattle.grammar.specs.Reading.{citation_limit, print_limit};
 ghost use Rattle.grammar.specs.Bytes.{cites, texts_in, tree_at, tree_limit};
 ghost use Rattle.grammar.specs.Outcome.{answer_of, written_of};
+ghost use Rattle.semantics.specs.Truth as format;
 ghost use Rattle.semantics.specs.Violations as lists;
 ghost use Rattle.semantics.specs.Packages as packages;
 ghost use Rattle.fields.specs.Appended.{Appended};
 ghost use Rattle.tree.specs.Walk.{text_at};
 ghost use Rattle.line.specs.Lines.{answer_byte, answer_bytes, figure, figures, truth_name, named, line, alone_lines, format_said, tree_lines, judged_lines, shown, lines, report_answer};
 ghost use Rattle.line.specs.Sizes.{longest_word, longest_truth, longest_number, longest_rows, longest_list, longest_status_line, longest_tree_line, longest_presence_line, longest_pakete_line, longest_format_line, longest_refused_line, longest_report};
-ghost use Rattle.line.specs.Parts.{Within, numbers_from, AllBelow, Admitted};
+ghost use Rattle.line.specs.Parts.{Within, numbers_from, AllBelow};
 
 use citation::Truth;
 use fields::{get16, map_into, put_byte, put_text};
@@ -27,7 +28,7 @@ use reader::Status;
 use refusal::Refusal;
 use status::StatusKind;
 use tree::{CITATION_LIMIT, TREE_LIMIT, Tree};
-use verdicts::{LIST_SIZE, eval_and_truth, violations};
+use verdicts::{LIST_SIZE, eval_admitted, verdicts_of};
 
 mod kept;
 
@@ -193,27 +194,21 @@ fn put_named(tree: Tree, list: &[u8], count: usize, out: &mut [u8], at: usize) -
     w
 }
 
-// A value that was admitted: short enough, and UTF-8.
-#[derive(Clone, Copy)]
-struct Value<'a> {
-    bytes: &'a [u8],
-    ghost admitted: { Admitted bytes.now },
-}
-
-// The numbers of the violations, at the start of a scratch.
-fn list_violations(tree: Tree, value: Value, scratch: &mut [u8]) -> usize
+// The format truth of a tree and how many violations it has; their numbers then begin the scratch.
+fn list_verdicts(tree: Tree, value: &[u8], scratch: &mut [u8]) -> (Truth, usize)
     requires { longest_list ≤ length scratch.old }
-    ensures { (result ≤ citation_limit) × (numbers_from scratch.new result 0 ≡ lists.violations value.entry.bytes.now (tree_at tree.entry.bytes.now 0)) }
+    ensures truth { result.0 ≡ format.truth value.now (tree_at tree.entry.bytes.now 0) }
+    ensures listed { (result.1 ≤ citation_limit) × (numbers_from scratch.new result.1 0 ≡ lists.violations value.now (tree_at tree.entry.bytes.now 0)) }
 {
-    violations(tree.bytes, value.bytes, scratch).unwrap_or(0)
+    verdicts_of(tree, value, scratch).unwrap_or((Truth::False, 0))
 }
 
-fn format_line(truth: Truth, tree: Tree, value: Value, out: &mut [u8], at: usize) -> usize
+fn format_line(tree: Tree, value: &[u8], out: &mut [u8], at: usize) -> usize
     requires { at + longest_format_line ≤ length out.old }
-    ensures { Appended (line "format " (format_said value.entry.bytes.now truth (tree_at tree.entry.bytes.now 0))) at out.old out.new result }
+    ensures { Appended (line "format " (format_said value.now (format.truth value.now (tree_at tree.entry.bytes.now 0)) (tree_at tree.entry.bytes.now 0))) at out.old out.new result }
 {
     let mut list = [0u8; LIST_SIZE];
-    let n = list_violations(tree, value, &mut list);
+    let (truth, n) = list_verdicts(tree, value, &mut list);
     let from = put_text(b"format ", out, at);
     let w = put_truth(truth, out, from);
     let end = put_named(tree, &list, n, out, w);
@@ -229,23 +224,16 @@ fn alone_lines(kind: StatusKind, out: &mut [u8]) -> usize
     put_text(b"tree -\npresence -\npakete -\nformat -\n", out, from)
 }
 
-// The lines of a word and a tree with its presence and its format truth.
-fn tree_lines(
-    kind: StatusKind,
-    tree: Tree,
-    value: Value,
-    presence: Truth,
-    format: Truth,
-    out: &mut [u8],
-) -> usize
+// The lines of a word and a tree with its presence.
+fn tree_lines(kind: StatusKind, tree: Tree, value: &[u8], presence: Truth, out: &mut [u8]) -> usize
     requires { longest_report ≤ length out.old }
-    ensures { Appended (tree_lines kind (tree_at tree.entry.bytes.now 0) value.entry.bytes.now presence format) 0 out.old out.new result }
+    ensures { Appended (tree_lines kind (tree_at tree.entry.bytes.now 0) value.now presence (format.truth value.now (tree_at tree.entry.bytes.now 0))) 0 out.old out.new result }
 {
     let a = status_line(kind, out, 0);
     let b = tree_line(tree, out, a);
     let p = presence_line(presence, out, b);
     let n = pakete_line(tree, out, p);
-    format_line(format, tree, value, out, n)
+    format_line(tree, value, out, n)
 }
 
 // The lines of a word and a tree, by answer bytes.
@@ -253,12 +241,9 @@ fn judged_lines(kind: StatusKind, tree: Tree, codes: &[u8], value: &[u8], out: &
     requires { longest_report ≤ length out.old }
     ensures { Appended (shown (judged_lines kind tree.entry.bytes.now (tree_at tree.entry.bytes.now 0) codes.now value.now)) 0 out.old out.new result }
 {
-    match eval_and_truth(tree.bytes, codes, value) {
+    match eval_admitted(tree, codes, value) {
         Err(why) => refused_line(why, out),
-        Ok((presence, format)) => {
-            let value = Value { bytes: value };
-            tree_lines(kind, tree, value, presence, format, out)
-        }
+        Ok(presence) => tree_lines(kind, tree, value, presence, out),
     }
 }
 

@@ -4,7 +4,7 @@ ghost use Rattle.replay.specs.Rooms.{room, Fits};
 
 use super::field::Field;
 use super::{OUT, ROOM};
-use citation::Paket;
+use citation::{Paket, Truth};
 use fields::{put_byte, put_text};
 use formats::FormatVerdict;
 use refusal::Refusal;
@@ -28,6 +28,7 @@ pub enum Said {
 pub enum Lent {
     Done(u64),
     Stated(StatusKind, Option<usize>),
+    Judged(Truth, usize),
 }
 
 // The answers that wait to be written, and the one that is made behind them: where it starts, and how long it is so far.
@@ -175,11 +176,20 @@ impl Answers {
         }
     }
 
+    // ok TRUTH COUNT
+    fn judged(&mut self, truth: Truth, count: usize)
+        ensures { self.new.len ≤ 49 }
+    {
+        self.worded(b"ok", u64::from(u8::from(truth)));
+        self.number(count as u64);
+    }
+
     // The answer to a request that lends a buffer, and then the buffer.
     pub fn answer_lent(&mut self, said: Result<Lent, Refusal>, buf: &Field) {
         match said {
             Ok(Lent::Done(n)) => self.worded(b"ok", n),
             Ok(Lent::Stated(kind, length)) => self.stated(kind, length),
+            Ok(Lent::Judged(truth, count)) => self.judged(truth, count),
             Err(why) => self.refused(why),
         }
         self.field(buf.bytes());

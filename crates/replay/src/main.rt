@@ -15,8 +15,7 @@
 //     print TREE BUF          ok LENGTH BUF', the print in the buffer
 //     eval TREE ANSWERS       0 to 3: False, Unknown, True, Neutral
 //     pakete TREE BUF         ok ROWS BUF', the package rows in the buffer
-//     truth TREE VALUE        0 to 2
-//     violations TREE VALUE BUF   ok COUNT BUF', the citation numbers in the buffer
+//     verdicts TREE VALUE BUF ok TRUTH COUNT BUF', TRUTH 0 to 2, the citation numbers in the buffer
 //     cited TREE              the texts, joined by `,`
 //
 // BUF is what a lent buffer holds before the call, BUF' after it; a refusal shows it too, `refused N BUF'`.

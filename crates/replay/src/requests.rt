@@ -38,7 +38,6 @@ fn with_two(word: &[u8], s: &[u8], t: &[u8]) -> Option<Result<Said, Refusal>> {
     match word {
         b"evaluate" => Some(formats::evaluate(s, t).map(|v| Said::Verdict(v))),
         b"eval" => Some(presence::eval(s, t).map(|v| Said::Figure(u64::from(u8::from(v))))),
-        b"truth" => Some(verdicts::truth(s, t).map(|v| Said::Figure(u64::from(u8::from(v))))),
         _ => None,
     }
 }
@@ -105,7 +104,7 @@ impl Fields {
 
     // The one request of two fields and a lent buffer.
     fn answer_three(&mut self, request: Request, out: &mut Answers) -> Option<()> {
-        if !matches!(request.word(), b"violations") {
+        if !matches!(request.word(), b"verdicts") {
             return None;
         }
         let Fields {
@@ -117,8 +116,8 @@ impl Fields {
         request.read(1, first)?;
         request.read(2, second)?;
         let buf = &mut third.room[0..third.len];
-        let said = done(verdicts::violations(first.bytes(), second.bytes(), buf));
-        out.answer_lent(said, third);
+        let said = verdicts::verdicts(first.bytes(), second.bytes(), buf);
+        out.answer_lent(said.map(|(truth, count)| Lent::Judged(truth, count)), third);
         Some(())
     }
 }

@@ -28,7 +28,7 @@ use Rattle.semantics.specs.Truth.{Counts, cited_truth, truth_with, truth}
 use Rattle.semantics.specs.Violations.{violations_with, violations, number_bytes}
 use Rattle.semantics.specs.Packages.{bytes_up_to, paket_bytes, rows_of, pakete}
 use Rattle.grammar.specs.Outcome.{answer_of, written_of}
-use Rattle.semantics.specs.Answers.{eval_answer, violations_answer, eval_and_truth_answer}
+use Rattle.semantics.specs.Answers.{eval_answer, verdicts_answer, eval_and_truth_answer}
 
 -- a citation with a quoted text
 abbrev c : String → Expr
@@ -140,13 +140,14 @@ numbers_go_on : (truth_with second_false 0 (and2 "1" "1") ≡ True) × (truth_wi
 unfolding truth_with violations_with and_rule or_rule any citations
 numbers_go_on = (refl, refl, refl, refl)
 
--- the violations into a buffer: their count, two bytes each, and the old rest; 14 and the old bytes where it is too short
-sample_written : (answer_of (violations_answer (bytes_of sample) (bytes "0")) 3 ≡ Ok 1)
-    × (written_of (violations_answer (bytes_of sample) (bytes "0")) (replicate 3 9) ≡ 3 ∷ 0 ∷ 9 ∷ [])
-    × (answer_of (violations_answer (bytes_of sample) (bytes "0")) 1 ≡ Err NoRoom)
-    × (written_of (violations_answer (bytes_of sample) (bytes "0")) (replicate 1 9) ≡ replicate 1 9)
-unfolding answer_of written_of violations_answer then admitted tree_of is_tree head_ok tiles size_of rows_from cited_from rows_ok row_ok cites_ok citable is_utf8 decode lead_of blank holds is_white tree_at forest_at first build place made firsts rests encode_char bytes_of packed head_bytes row_bytes cite_bytes two_bytes rows node op_kind many citations concat number_bytes truth_with cited_truth violations_with and_rule or_rule any kind_of kind_of_number number_up_to verdict rule_of judged against integer_of fraction_of
-sample_written = (refl, refl, refl, refl)
+-- verdicts into a buffer: the truth and the count, two bytes each number, and the old rest; 14 alone and the old bytes where it is too short
+sample_written : (answer_of (verdicts_answer (bytes_of sample) (bytes "0")) 3 ≡ Ok (False, 1))
+    × (written_of (verdicts_answer (bytes_of sample) (bytes "0")) (replicate 3 9) ≡ 3 ∷ 0 ∷ 9 ∷ [])
+    × (answer_of (verdicts_answer (bytes_of sample) (bytes "0")) 1 ≡ Err NoRoom)
+    × (written_of (verdicts_answer (bytes_of sample) (bytes "0")) (replicate 1 9) ≡ replicate 1 9)
+    × (answer_of (verdicts_answer (bytes_of sample) (bytes "5")) 0 ≡ Ok (True, 0))
+unfolding answer_of written_of verdicts_answer then admitted tree_of is_tree head_ok tiles size_of rows_from cited_from rows_ok row_ok cites_ok citable is_utf8 decode lead_of blank holds is_white tree_at forest_at first build place made firsts rests encode_char bytes_of packed head_bytes row_bytes cite_bytes two_bytes rows node op_kind many citations concat number_bytes truth_with cited_truth violations_with and_rule or_rule any kind_of kind_of_number number_up_to verdict rule_of judged against integer_of fraction_of
+sample_written = (refl, refl, refl, refl, refl)
 
 -- an expression, answer bytes, a value, and what `eval_and_truth` says: 16 before the value's 10 and 11, and these before 7 and 8
 abbrev both : List (Expr × List ℕ × List ℕ × Result (Truth × Truth) Refusal)

@@ -1,21 +1,19 @@
--- Every refusal of presence and of format truth is one of the table. Assumes nothing.
+-- Every refusal of presence is one of the table. Assumes nothing.
 use Rattle.std.specs.Prelude.{refl, List, Bool, true, false, ◌&&◌, not, ℕ, ◌+◌, eqb, get_or, Result, Ok, Err}
 use Rattle.laws.specs.Tests.{cond_both}
 use Rattle.refusal.specs.declared.Refusal.{Refusal}
 use Rattle.refusal.specs.Result.{unless}
 use Rattle.refusal.specs.Known.{Known, unless-among, map_known, then_known}
 use Rattle.refusal.specs.declared.Refusal.TheVariants.{ChoiceOverNeutral, FailedAnswer, WrongAnswers}
-use Rattle.utf8.specs.Limits.{value_limit}
 use Rattle.citation.specs.declared.Truth.{Truth}
 use Rattle.citation.specs.declared.Truth.TheVariants.{False, Unknown, True, Neutral}
 use Rattle.citation.specs.Truths.{truth_number}
 use Rattle.grammar.specs.Expr.{And, Or, Xor, Expr, Exprs, cite, Then, join, none, more, count}
 use Rattle.grammar.specs.Bytes.{tree_of}
-use Rattle.grammar.proofs.Known.{admitted-among, tree_of_known}
+use Rattle.grammar.proofs.Known.{tree_of_known}
 use Rattle.semantics.specs.Rules.{and_rule, or_rule, xor_rule}
 use Rattle.semantics.specs.Presence.{presence_with, failed, mixes, before, valued, dropped, presence, values, answered, oracle_of, answers_fit}
-use Rattle.semantics.specs.Truth.{truth}
-use Rattle.semantics.specs.Answers.{presence_by, eval_answer, truth_answer}
+use Rattle.semantics.specs.Answers.{presence_by, eval_answer}
 
 answered_known : (b : ℕ) → Known (answered b)
 unfolding answered
@@ -56,8 +54,3 @@ unfolding eval_answer
 eval_known b answers =
     then_known (tree_of b) (λ e. unless (answers_fit e answers) WrongAnswers (presence_by answers e)) (tree_of_known b)
     λ e. unless-among (λ _. Unit {0}) (answers_fit e answers) WrongAnswers (presence_by answers e) (presence_known answers 0 e)
-
--- the refusals of format truth
-pub truth_known : (tree value : List ℕ) → Known (truth_answer tree value)
-unfolding truth_answer
-truth_known tree value = then_known (tree_of tree) _ (tree_of_known tree) λ e. admitted-among (λ _. Unit {0}) value_limit value (Ok (truth value e)) tt

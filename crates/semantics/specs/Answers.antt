@@ -1,4 +1,4 @@
--- What `eval`, `truth`, `violations`, `eval_and_truth` and `pakete` answer on bytes, with the refusals in their order. Assumes nothing.
+-- What `eval`, `verdicts`, `eval_and_truth` and `pakete` answer on bytes, with the refusals in their order. Assumes nothing.
 use Rattle.std.specs.Prelude.{List, ℕ, length, Result, Ok}
 use Rattle.refusal.specs.declared.Refusal.{Refusal}
 use Rattle.refusal.specs.Result.{unless, then, map_ok}
@@ -21,21 +21,21 @@ presence_by answers e = presence (oracle_of answers) 0 e
 unfoldable pub eval_answer : (tree answers : List ℕ) → Result Truth Refusal
 eval_answer tree answers = then (tree_of tree) (λ e. unless (answers_fit e answers) WrongAnswers (presence_by answers e))
 
--- `truth`: 15, then the value's 10 and 11
-unfoldable pub truth_answer : (tree value : List ℕ) → Result Truth Refusal
-truth_answer tree value = then (tree_of tree) (λ e. admitted value_limit value (Ok (truth value e)))
+-- a truth and how many numbers there are, and their bytes
+abbrev pub with_numbers : Truth → List ℕ → Written (Truth × ℕ)
+with_numbers v ns = record { answer = (v, length ns); bytes = number_bytes ns }
 
--- their count, and their bytes
-abbrev pub numbered : List ℕ → Written ℕ
-numbered ns = record { answer = length ns; bytes = number_bytes ns }
+-- the format truth of an expression, and its violations
+abbrev pub verdicts_outcome : (value : List ℕ) → Expr → Outcome (Truth × ℕ)
+verdicts_outcome value e = Ok (with_numbers (truth value e) (violations value e))
 
--- the violations of an expression
-abbrev pub list_outcome : (value : List ℕ) → Expr → Outcome ℕ
-list_outcome value e = Ok (numbered (violations value e))
+-- `verdicts`: 15, then the value's 10 and 11
+unfoldable pub verdicts_answer : (tree value : List ℕ) → Outcome (Truth × ℕ)
+verdicts_answer tree value = then (tree_of tree) (λ e. admitted value_limit value (verdicts_outcome value e))
 
--- `violations`: 15, then the value's 10 and 11
-unfoldable pub violations_answer : (tree value : List ℕ) → Outcome ℕ
-violations_answer tree value = then (tree_of tree) (λ e. admitted value_limit value (list_outcome value e))
+-- presence by answer bytes that fit, beside a value that is admitted: 16, the value's 10 and 11, then 7 and 8 as met
+abbrev pub admitted_presence : (answers value : List ℕ) → Expr → Result Truth Refusal
+admitted_presence answers value e = unless (answers_fit e answers) WrongAnswers (admitted value_limit value (presence_by answers e))
 
 -- `eval_and_truth`: 15, 16, the value's 10 and 11, then 7 and 8 as met
 unfoldable pub eval_and_truth_answer : (tree answers value : List ℕ) → Result (Truth × Truth) Refusal
@@ -43,7 +43,7 @@ eval_and_truth_answer tree answers value =
     then (tree_of tree)
     (λ e. unless (answers_fit e answers) WrongAnswers (admitted value_limit value (map_ok (λ p. (p, truth value e)) (presence_by answers e))))
 
--- their count, and their bytes
+-- how many rows there are, and their bytes
 abbrev pub rowed : List (List ℕ) → Written ℕ
 rowed rs = record { answer = length rs; bytes = concat rs }
 

@@ -18,7 +18,7 @@ use Rattle.semantics.specs.Presence.{oracle_of}
 use Rattle.grammar.specs.Outcome.{Written, Outcome, answer_of, written_of, with_length, parse_answer, display_answer, StatusSaid, with_status, stated_bytes, status_answer, accepted}
 use Rattle.grammar.proofs.Outcome.{answer_fits, written_fits, answer_short, written_short, written_back}
 use Rattle.semantics.specs.Truth.{counts_on}
-use Rattle.semantics.specs.Answers.{eval_answer, truth_answer, violations_answer, eval_and_truth_answer, pakete_answer}
+use Rattle.semantics.specs.Answers.{eval_answer, verdicts_answer, eval_and_truth_answer, pakete_answer}
 use Rattle.semantics.proofs.Flat as flats
 use Rattle.theorems.specs.Demand3.{Held, by_expression, by_status, IsHeld, flat_tree, Writes, print_in, PrintReads, AnswersAlike, SameIn, Promised}
 
@@ -161,13 +161,9 @@ module _ (e : Expr) (f : Fits e) where
   unfolding eval_answer then
   eval_flat answers = rw (flat_is, tree_is, flats.fit_flat e answers, flats.presence_flat (oracle_of answers) 0 e)
 
-  truth_flat : (value : List ℕ) → truth_answer (bytes_of (flat e)) value ≡ truth_answer (bytes_of e) value
-  unfolding truth_answer then
-  truth_flat value = rw (flat_is, tree_is, flats.truth_flat (counts_on value) 0 e)
-
-  violations_flat : (value : List ℕ) → violations_answer (bytes_of (flat e)) value ≡ violations_answer (bytes_of e) value
-  unfolding violations_answer then
-  violations_flat value = rw (flat_is, tree_is, flats.violations_flat (counts_on value) 0 e)
+  verdicts_flat : (value : List ℕ) → verdicts_answer (bytes_of (flat e)) value ≡ verdicts_answer (bytes_of e) value
+  unfolding verdicts_answer then
+  verdicts_flat value = rw (flat_is, tree_is, flats.truth_flat (counts_on value) 0 e, flats.violations_flat (counts_on value) 0 e)
 
   both_flat : (answers value : List ℕ) → eval_and_truth_answer (bytes_of (flat e)) answers value ≡ eval_and_truth_answer (bytes_of e) answers value
   unfolding eval_and_truth_answer then
@@ -183,8 +179,7 @@ module _ (e : Expr) (f : Fits e) where
   fitting_flat_agrees = record {
     eval = eval_flat;
     pakete = pakete_flat;
-    truth = truth_flat;
-    violations = violations_flat;
+    verdicts = verdicts_flat;
     eval_and_truth = both_flat;
   }
 

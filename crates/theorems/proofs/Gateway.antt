@@ -8,8 +8,8 @@ use Rattle.refusal.specs.Result.{unless, then, map_ok, err≢ok}
 use Rattle.refusal.specs.Known.{Among, named_most}
 use Rattle.refusal.specs.declared.Refusal.TheVariants.{NoRoom}
 use Rattle.grammar.specs.Outcome.{Outcome, answer_of, written_of, parse_answer, status_answer, StatusSaid}
-use Rattle.ahb.specs.Numbers.{accepted_from, code_step, coded, ReadSaid, expression, status, read_number, presence_number, verdict_number}
-use Rattle.ahb.specs.Answers.{said_by, read_answer, verdicts_answer}
+use Rattle.ahb.specs.Numbers.{accepted_from, code_step, coded, ReadSaid, expression, status, read_number, presence_number, verdicts_number}
+use Rattle.ahb.specs.Answers.{said_by, read_answer}
 use Rattle.ahb.specs.Determined.{ShortSaid, read-among}
 use Rattle.ahb.proofs.Laws.{said_written}
 use Rattle.theorems.specs.Demand3.{Held, by_expression, by_status, flat_tree, AnswersAlike}
@@ -17,16 +17,12 @@ use Rattle.theorems.proofs.Demand3.{held_promised}
 use Rattle.theorems.specs.Gateway.{NumbersAlike}
 
 module _ (a b : List ℕ) (h : AnswersAlike a b) where
-  verdicts_alike : (mode : ℕ) (value : List ℕ) → verdicts_answer mode a value ≡ verdicts_answer mode b value
-  unfolding verdicts_answer
-  verdicts_alike mode value = rw (h.truth value, h.violations value)
-
   -- trees that answer alike have the same numbers
   pub numbers_alike : NumbersAlike a b
   numbers_alike = record {
     presence = λ answers. ap presence_number (h.eval answers);
-    verdicts = λ mode value n. ap (λ o. verdict_number (answer_of o n)) (verdicts_alike mode value);
-    list = λ mode value list. ap (λ o. written_of o list) (verdicts_alike mode value);
+    verdicts = λ value n. ap (λ o. verdicts_number (answer_of o n)) (h.verdicts value);
+    list = λ value list. ap (λ o. written_of o list) (h.verdicts value);
   }
 
 module _ {A B : Type 0} (f : A → B) where

@@ -1,6 +1,6 @@
 -- The theorems on the list of violations, for every tree, read or not, and every value. Assumes nothing.
-use Rattle.std.specs.Prelude.{◌≡◌, refl, List, [], ◌∷◌, ◌++◌, Bool, true, false, cond, not, ◌||◌, ℕ, ◌+◌, ◌≤◌, ◌<◌, eqb, ltb, length, get_or, ◌↔◌}
-use Rattle.std.proofs.Common.{sym, ◌∙◌, ⊎_elim, arith, eqb-true, eq-eqb, ltb-true, ltb-false, length-append, zero-add}
+use Rattle.std.specs.Prelude.{◌≡◌, refl, List, [], ◌∷◌, ◌++◌, Bool, true, false, cond, not, ◌||◌, ℕ, ◌+◌, ◌≤◌, ◌<◌, eqb, ltb, length, get_or, Ok, ◌↔◌}
+use Rattle.std.proofs.Common.{sym, ap, ◌∙◌, ⊎_elim, arith, eqb-true, eq-eqb, ltb-true, ltb-false, length-append, zero-add}
 use Rattle.std.proofs.Math.Bool.{or-true}
 use Rattle.std.proofs.lemmas.Bool.{false≢true, not-true}
 use mathlib.Core.List.Memᴰ
@@ -11,7 +11,7 @@ use Rattle.text.specs.Quoted.{ascii}
 use Rattle.text.specs.Digits.{number_up_to}
 use Rattle.citation.specs.Kinds.{kind_of, kind_of_number}
 use Rattle.citation.specs.declared.Truth.{Truth}
-use Rattle.citation.specs.declared.Truth.TheVariants.{True}
+use Rattle.citation.specs.declared.Truth.TheVariants.{False, True}
 use Rattle.formats.specs.declared.FormatVerdict.{FormatVerdict}
 use Rattle.formats.specs.declared.FormatVerdict.TheVariants.{Holds, Violated, Unregistered}
 use Rattle.decimal.specs.Decimal.{integer_of, fraction_of, against}
@@ -19,13 +19,17 @@ use Rattle.formats.specs.Rules.{judged}
 use Rattle.formats.specs.Table.{rule_of, verdict}
 use Rattle.formats.specs.Answers.{verdict_truth}
 use Rattle.grammar.specs.Expr.{Op, And, Or, Expr, Exprs, cite, Then, join, none, more, ◌◂◌, citations, citations_of, count}
+use Rattle.grammar.specs.Outcome.{answer_of}
 use Rattle.semantics.specs.Rules.{is_false, any, and_rule, or_rule}
 use Rattle.semantics.specs.Truth.{is_judged, Counts, format_rule, truth_with, truths_with, cited_truth, counts_on, truth}
 use Rattle.semantics.specs.Violations.{fails, violations_with, violations_of, violations}
-use Rattle.semantics.proofs.Pairs.{at, at2, same_refl}
+use Rattle.semantics.specs.Pairs.{same}
+use Rattle.semantics.proofs.Pairs.{at, at2, same_is, same_refl}
 use Rattle.semantics.specs.Kept.{Kept, EachCited}
 use Rattle.semantics.proofs.Kept.{kept_none, kept_more, truth_kept}
 use Rattle.semantics.proofs.Flat.{not_false_none}
+use Rattle.semantics.specs.Answers.{verdicts_answer}
+use Rattle.theorems.specs.Remarks.{verdicts_are}
 use Rattle.theorems.specs.Violations.{cited_false, cited_false_of, violations_before, with_held, rises, Raised, IsViolated, StandsIn, FalseAround, FalseAroundIn, ListPromised}
 
 -- The list that stood before.
@@ -254,6 +258,22 @@ violations_promised value e = record {
   raised = λ d. raised_not_false (counts_on value) d e;
   exactly = exactly value e;
 }
+
+false_is : (v : Truth) → is_false v ≡ true → v ≡ False
+false_is v h = same_is v False (rw h at (at (λ v. not (is_false v) || same v False) refl v))
+
+-- so `verdicts` counts a violation exactly if the format truth that it answers is False
+pub listed_if_false : (tree value : List ℕ) (n : ℕ) (v : Truth) (k : ℕ) → answer_of (verdicts_answer tree value) n ≡ Ok (v, k) → (0 < k) ↔ (v ≡ False)
+listed_if_false tree value n v k h =
+    let t = verdicts_are tree value n v k h in
+    let p = violations_promised value t.expr in (
+      λ l. by t.expr (is_false v) refl t.is_truth (omega (arith, l, t.is_count)),
+      λ f. omega (arith, t.is_count, p.some (ap is_false (t.is_truth ∙ f))),
+    )
+  where
+    by : (e : Expr) (x : Bool) → is_false v ≡ x → truth value e ≡ v → 0 < length (violations value e) → v ≡ False
+    by e true q h l = false_is v q
+    by e false q h l = absurd (omega (arith, l, ap length ((violations_promised value e).none (ap is_false h ∙ q))))
 
 -- `([902] ∨ [903]) [1] ∧ [914]`
 abbrev sample : Expr

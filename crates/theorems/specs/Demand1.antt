@@ -20,7 +20,7 @@ use Rattle.formats.specs.Table.{verdict, is_registered}
 use Rattle.formats.specs.Answers.{verdict_answer, registered_answer}
 use Rattle.status.specs.declared.StatusKind.{StatusKind}
 use Rattle.status.specs.Status.{kind_of_word}
-use Rattle.grammar.specs.Expr.{concat}
+use Rattle.grammar.specs.Expr.{Expr, concat}
 use Rattle.grammar.specs.Lex.{Tok, lex, texts}
 use Rattle.grammar.specs.Print.{printed}
 use Rattle.grammar.specs.Reading.{citation_limit, cited_limit, some_token, few, tree, expression, reading}
@@ -33,10 +33,10 @@ use Rattle.grammar.proofs.Outcome.{written_fits}
 use Rattle.semantics.specs.Presence.{answers_fit}
 use Rattle.semantics.specs.Packages.{pakete}
 use Rattle.semantics.specs.Truth.{truth}
-use Rattle.semantics.specs.Answers.{presence_by, eval_answer, truth_answer, violations_answer, eval_and_truth_answer, rowed, pakete_answer}
-use Rattle.semantics.proofs.Known.{presence_known, eval_known, truth_known}
+use Rattle.semantics.specs.Answers.{presence_by, eval_answer, verdicts_outcome, verdicts_answer, admitted_presence, eval_and_truth_answer, rowed, pakete_answer}
+use Rattle.semantics.proofs.Known.{presence_known, eval_known}
 use Rattle.tree.specs.Cited.{cited_place, cited_answer}
-use Rattle.ahb.specs.Sizes.{Short, ShortStatus, Few, answer_among, parse-among, status_among, violations-among}
+use Rattle.ahb.specs.Sizes.{Short, ShortStatus, CountFew, answer_among, parse-among, status_among, verdicts-among}
 
 -- Lent memory.
 
@@ -142,13 +142,18 @@ pakete-numbered tree n = room_known (pakete_answer tree) n (map_known (λ e. row
 pub eval_numbered : (tree answers : List ℕ) → Known (eval_answer tree answers)
 eval_numbered = eval_known
 
--- `truth`
-pub truth-numbered : (tree value : List ℕ) → Known (truth_answer tree value)
-truth-numbered = truth_known
+-- `verdicts`
+pub verdicts_numbered : (tree value : List ℕ) (n : ℕ) → Known (answer_of (verdicts_answer tree value) n)
+verdicts_numbered tree value n = among_known CountFew (answer_of (verdicts_answer tree value) n) (verdicts-among tree value n)
 
--- `violations`
-pub violations-numbered : (tree value : List ℕ) (n : ℕ) → Known (answer_of (violations_answer tree value) n)
-violations-numbered tree value n = among_known Few (answer_of (violations_answer tree value) n) (violations-among tree value n)
+-- `verdicts_of`
+pub verdicts_of_numbered : (value : List ℕ) (e : Expr) (n : ℕ) → Known (answer_of (verdicts_outcome value e) n)
+verdicts_of_numbered value e n = room_known (verdicts_outcome value e) n tt
+
+-- `eval_admitted`
+pub admitted_numbered : (answers value : List ℕ) (e : Expr) → Known (admitted_presence answers value e)
+admitted_numbered answers value e =
+    unless-among (λ _. Unit {0}) (answers_fit e answers) WrongAnswers _ (admitted-among (λ _. Unit {0}) value_limit value (presence_by answers e) (presence_known answers 0 e))
 
 -- `eval_and_truth`
 pub both-numbered : (tree answers value : List ℕ) → Known (eval_and_truth_answer tree answers value)

@@ -10,9 +10,10 @@
 -- | `tree::cited(tree, number)` | said ≡ cited_answer tree number | tree: Cited |
 -- | `presence::eval(tree, answers)` | said ≡ eval_answer tree answers | semantics: Presence, Rules; citation: Kinds |
 -- | `packages::pakete(tree, out)` | as display, of pakete_answer tree | semantics: Packages; citation: Pakete |
--- | `verdicts::truth(tree, value)` | said ≡ truth_answer tree value | semantics: Truth, Rules; formats: Table, Rules |
--- | `verdicts::violations(tree, value, out)` | as display, of violations_answer tree value | semantics: Violations |
+-- | `verdicts::verdicts(tree, value, list)` | as display, of verdicts_answer tree value | semantics: Truth, Violations, Rules; formats: Table, Rules |
+-- | `verdicts::verdicts_of(tree, value, list)`, of a tested tree | as display, of verdicts_outcome value and the tree's expression | the same |
 -- | `verdicts::eval_and_truth(tree, answers, value)` | said ≡ eval_and_truth_answer tree answers value | semantics: Answers |
+-- | `verdicts::eval_admitted(tree, answers, value)`, of a tested tree | said ≡ admitted_presence answers value and the tree's expression | the same |
 -- | `citation::ConditionKind::of(text)` | said ≡ kind_answer text | citation: Kinds; text: Digits |
 -- | `citation::Paket::parse(text)` | said ≡ paket_answer text | citation: Pakete |
 -- | `formats::evaluate(text, value)` | said ≡ verdict_answer text value | formats: Table, Rules; decimal: Decimal; moment: Moments; calendar: Calendar |

@@ -10,7 +10,7 @@ use Rattle.grammar.specs.Flat.{flat}
 use Rattle.grammar.specs.Bytes.{bytes_of, tree_of}
 use Rattle.grammar.specs.Theorems.{WasRead}
 use Rattle.grammar.specs.Outcome.{Outcome, answer_of, written_of, parse_answer, display_answer, status_answer}
-use Rattle.semantics.specs.Answers.{eval_answer, truth_answer, violations_answer, eval_and_truth_answer, pakete_answer}
+use Rattle.semantics.specs.Answers.{eval_answer, verdicts_answer, eval_and_truth_answer, pakete_answer}
 
 -- a tree that is held: the first bytes of a buffer after `Expr::parse`, or `Status::parse`, was accepted with so many
 pub data Held : List ℕ → Type 0 where
@@ -55,10 +55,8 @@ pub record AnswersAlike (a b : List ℕ) : Type 0 where
   pub eval : (answers : List ℕ) → eval_answer a answers ≡ eval_answer b answers
   -- the package rows, their count, or the refusal
   pub pakete : pakete_answer a ≡ pakete_answer b
-  -- the format truth or refusal
-  pub truth : (value : List ℕ) → truth_answer a value ≡ truth_answer b value
-  -- the violations, their count and order, or the refusal
-  pub violations : (value : List ℕ) → violations_answer a value ≡ violations_answer b value
+  -- the format truth and the violations, their count and order, or the refusal
+  pub verdicts : (value : List ℕ) → verdicts_answer a value ≡ verdicts_answer b value
   -- presence and format truth together
   pub eval_and_truth : (answers value : List ℕ) → eval_and_truth_answer a answers value ≡ eval_and_truth_answer b answers value
 

@@ -38,7 +38,8 @@ use Rattle.semantics.specs.Pairs as pairs
 use Rattle.semantics.proofs.Pairs.{same_is, same_refl}
 use Rattle.semantics.specs.Kept.{Kept}
 use Rattle.semantics.proofs.Kept.{truth_kept, violations_kept}
-use Rattle.semantics.specs.Answers.{numbered, rowed, pakete_answer, eval_answer, truth_answer, violations_answer, eval_and_truth_answer}
+use Rattle.semantics.proofs.Flat.{not_false_none}
+use Rattle.semantics.specs.Answers.{with_numbers, verdicts_outcome, rowed, pakete_answer, eval_answer, verdicts_answer, eval_and_truth_answer}
 
 -- The kinds, if Format begins at a given number.
 
@@ -183,7 +184,7 @@ presence-same first h g oracle n e = ap₂ (λ hint gate. presence_with hint gat
 pub presence_now : (oracle : ℕ → Result Truth Refusal) (n : ℕ) (e : Expr) → presence_from 901 oracle n e ≡ presence oracle n e
 presence_now = presence-same 901 (λ t. ap is_hinweis (kind_now t)) (λ t. ap is_gate (kind_now t))
 
--- so is what citations count as, and with it format truth
+-- so is what citations count as, and with it format truth and the violations
 pub counts_now : (value : List ℕ) → counts_from 901 value ≡ counts_on value
 unfolding cited_truth
 counts_now value = ap (λ kind n t. cond (is_judged (kind t)) (verdict_truth (verdict t value)) True) (fun_ext kind_now)
@@ -254,11 +255,7 @@ module _ (value : List ℕ) where
       by (inl is) = ap is_false (sym is)
       by (inr m) = ap is_false m.0 ∙ sym (ap is_false m.1)
 
-  -- from 901 on, the violations are those that are used
-  pub violations_now : (e : Expr) → violations_from 901 value e ≡ violations value e
-  violations_now e = ap (λ c. violations_with c 0 e) (counts_now value)
-
-  -- they are the same from 900 on
+  -- the violations are as before
   pub violations_stay : (e : Expr) → violations_from 900 value e ≡ violations value e
   violations_stay e = violations_kept settles (counts_from 900 value) (counts_on value) settles_kept false_stays 0 e (λ i l. counts_settle (0 + i) (get_or (citations e) i []))
 
@@ -278,13 +275,9 @@ module _ (first : ℕ) where
   unfoldable pub pakete_from : (tree : List ℕ) → Outcome ℕ
   pakete_from tree = map_ok (λ e. rowed (rows_from first 0 (citations e))) (tree_of tree)
 
-  -- `truth`
-  unfoldable pub truth_answer_from : (tree value : List ℕ) → Result Truth Refusal
-  truth_answer_from tree value = then (tree_of tree) (λ e. admitted value_limit value (Ok (truth_from first value e)))
-
-  -- `violations`
-  unfoldable pub violations_answer_from : (tree value : List ℕ) → Outcome ℕ
-  violations_answer_from tree value = then (tree_of tree) (λ e. admitted value_limit value (Ok (numbered (violations_from first value e))))
+  -- `verdicts`
+  unfoldable pub verdicts_answer_from : (tree value : List ℕ) → Outcome (Truth × ℕ)
+  verdicts_answer_from tree value = then (tree_of tree) (λ e. admitted value_limit value (Ok (with_numbers (truth_from first value e) (violations_from first value e))))
 
   -- `eval_and_truth`
   unfoldable pub eval_and_truth_from : (tree answers value : List ℕ) → Result (Truth × Truth) Refusal
@@ -296,13 +289,12 @@ module _ (first : ℕ) where
 pub record AreNow (tree : List ℕ) : Type 0 where
   pub eval : (answers : List ℕ) → eval_from 901 tree answers ≡ eval_answer tree answers
   pub pakete : pakete_from 901 tree ≡ pakete_answer tree
-  pub truth : (value : List ℕ) → truth_answer_from 901 tree value ≡ truth_answer tree value
-  pub violations : (value : List ℕ) → violations_answer_from 901 tree value ≡ violations_answer tree value
+  pub verdicts : (value : List ℕ) → verdicts_answer_from 901 tree value ≡ verdicts_answer tree value
   pub eval_and_truth : (answers value : List ℕ) → eval_and_truth_from 901 tree answers value ≡ eval_and_truth_answer tree answers value
 
--- an answer before and now: the same, refusals among them, or Unknown and True
-abbrev pub SettledAnswer : Result Truth Refusal → Result Truth Refusal → Type 0
-SettledAnswer before now = (now ≡ before) ⊎ ((before ≡ Ok Unknown) × (now ≡ Ok True))
+-- a truth and a list before and now: the same, refusals among them, or Unknown and True, and no violation in either
+abbrev pub SettledVerdicts : Outcome (Truth × ℕ) → Outcome (Truth × ℕ) → Type 0
+SettledVerdicts before now = (now ≡ before) ⊎ ((before ≡ Ok (with_numbers Unknown [])) × (now ≡ Ok (with_numbers True [])))
 
 -- two answers before and now: the same, refusals among them, or one presence with Unknown and with True
 abbrev pub SettledBoth : Result (Truth × Truth) Refusal → Result (Truth × Truth) Refusal → Type 0
@@ -314,10 +306,8 @@ pub record AsBefore (tree : List ℕ) : Type 0 where
   pub eval : (answers : List ℕ) → eval_from 900 tree answers ≡ eval_answer tree answers
   -- the package rows, their count, or the refusal
   pub pakete : pakete_from 900 tree ≡ pakete_answer tree
-  -- the violations in their order, or the refusal
-  pub violations : (value : List ℕ) → violations_answer_from 900 tree value ≡ violations_answer tree value
-  -- the format truth or refusal
-  pub truth : (value : List ℕ) → SettledAnswer (truth_answer_from 900 tree value) (truth_answer tree value)
+  -- the format truth and the violations in their order, or the refusal
+  pub verdicts : (value : List ℕ) → SettledVerdicts (verdicts_answer_from 900 tree value) (verdicts_answer tree value)
   -- presence and format truth together
   pub eval_and_truth : (answers value : List ℕ) → SettledBoth (eval_and_truth_from 900 tree answers value) (eval_and_truth_answer tree answers value)
 
@@ -331,14 +321,9 @@ module _ (tree : List ℕ) where
   unfolding pakete_from pakete_answer pakete
   pakete-same first h = ap (λ f. map_ok (λ e. rowed (f (citations e))) (tree_of tree)) (fun_ext (h 0))
 
-  truth_now : (value : List ℕ) → truth_answer_from 901 tree value ≡ truth_answer tree value
-  unfolding truth_answer_from truth_answer
-  truth_now value = ap (λ c. then (tree_of tree) (λ e. admitted value_limit value (Ok (truth_with c 0 e)))) (counts_now value)
-
-  list_same : (first : ℕ) → ((value : List ℕ) (e : Expr) → violations_from first value e ≡ violations value e)
-      → (value : List ℕ) → violations_answer_from first tree value ≡ violations_answer tree value
-  unfolding violations_answer_from violations_answer
-  list_same first h value = ap (λ f. then (tree_of tree) (λ e. admitted value_limit value (Ok (numbered (f e))))) (fun_ext (h value))
+  verdicts_now : (value : List ℕ) → verdicts_answer_from 901 tree value ≡ verdicts_answer tree value
+  unfolding verdicts_answer_from verdicts_answer
+  verdicts_now value = ap (λ c. then (tree_of tree) (λ e. admitted value_limit value (Ok (with_numbers (truth_with c 0 e) (violations_with c 0 e))))) (counts_now value)
 
   both_now : (answers value : List ℕ) → eval_and_truth_from 901 tree answers value ≡ eval_and_truth_answer tree answers value
   unfolding eval_and_truth_from eval_and_truth_answer
@@ -351,8 +336,7 @@ pub are_now : (tree : List ℕ) → AreNow tree
 are_now tree = record {
   eval = eval_same tree 901 presence_now;
   pakete = pakete-same tree 901 rows_now;
-  truth = truth_now tree;
-  violations = list_same tree 901 violations_now;
+  verdicts = verdicts_now tree;
   eval_and_truth = both_now tree;
 }
 
@@ -369,12 +353,14 @@ unfolding admitted
 admitted_related R h value before now k =
     unless_related R h (leb (length value) value_limit) TooLong _ _ (unless_related R h (is_utf8 value) NotUtf8 before now k)
 
-answer_settles : (value : List ℕ) (e : Expr) → SettledAnswer (Ok (truth_from 900 value e)) (Ok (truth value e))
-answer_settles value e = by (truth-settles value e)
+verdicts_settle : (value : List ℕ) (e : Expr) → SettledVerdicts (Ok (with_numbers (truth_from 900 value e) (violations_from 900 value e))) (verdicts_outcome value e)
+verdicts_settle value e = rw (violations_stay value e) (by (truth-settles value e))
   where
-    by : Settled (truth_from 900 value e) (truth value e) → SettledAnswer (Ok (truth_from 900 value e)) (Ok (truth value e))
-    by (inl is) = inl (ap Ok is)
-    by (inr m) = inr (ap Ok m.0, ap Ok m.1)
+    by : Settled (truth_from 900 value e) (truth value e) → SettledVerdicts (Ok (with_numbers (truth_from 900 value e) (violations value e))) (verdicts_outcome value e)
+    by (inl is) = inl (ap (λ v. Ok (with_numbers v (violations value e))) is)
+    by (inr m) =
+        let none = not_false_none (counts_on value) 0 e (ap is_false m.1) in
+        inr (ap₂ (λ v ns. Ok (with_numbers v ns)) m.0 none, ap₂ (λ v ns. Ok (with_numbers v ns)) m.1 none)
 
 both-settles : (r : Result Truth Refusal) (value : List ℕ) (e : Expr) → SettledBoth (map_ok (λ p. (p, truth_from 900 value e)) r) (map_ok (λ p. (p, truth value e)) r)
 unfolding map_ok
@@ -386,12 +372,14 @@ both-settles (Ok p) value e = by (truth-settles value e)
     by (inr m) = inr (p, ap (λ t. Ok (p, t)) m.0, ap (λ t. Ok (p, t)) m.1)
 
 module _ (tree : List ℕ) where
-  truth_answer_settles : (value : List ℕ) → SettledAnswer (truth_answer_from 900 tree value) (truth_answer tree value)
-  unfolding truth_answer_from truth_answer then
-  truth_answer_settles value = by (tree_of tree)
+  verdicts_answer_settles : (value : List ℕ) → SettledVerdicts (verdicts_answer_from 900 tree value) (verdicts_answer tree value)
+  unfolding verdicts_answer_from verdicts_answer then
+  verdicts_answer_settles value = by (tree_of tree)
     where
-      by : (r : Result Expr Refusal) → SettledAnswer (then r (λ e. admitted value_limit value (Ok (truth_from 900 value e)))) (then r (λ e. admitted value_limit value (Ok (truth value e))))
-      by (Ok e) = admitted_related SettledAnswer (λ r. inl refl) value _ _ (answer_settles value e)
+      by : (r : Result Expr Refusal) → SettledVerdicts
+          (then r (λ e. admitted value_limit value (Ok (with_numbers (truth_from 900 value e) (violations_from 900 value e)))))
+          (then r (λ e. admitted value_limit value (verdicts_outcome value e)))
+      by (Ok e) = admitted_related SettledVerdicts (λ r. inl refl) value _ _ (verdicts_settle value e)
       by (Err k) = inl refl
 
   both_answer_settles : (answers value : List ℕ) → SettledBoth (eval_and_truth_from 900 tree answers value) (eval_and_truth_answer tree answers value)
@@ -411,7 +399,6 @@ pub as_before : (tree : List ℕ) → AsBefore tree
 as_before tree = record {
   eval = eval_same tree 900 presence_stays;
   pakete = pakete-same tree 900 rows_stay;
-  violations = list_same tree 900 violations_stay;
-  truth = truth_answer_settles tree;
+  verdicts = verdicts_answer_settles tree;
   eval_and_truth = both_answer_settles tree;
 }

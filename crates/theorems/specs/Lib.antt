@@ -5,5 +5,6 @@ pub mod Demand3
 pub mod FormatRange
 pub mod FullForm
 pub mod Gateway
+pub mod OneCall
 pub mod Remarks
 pub mod Violations

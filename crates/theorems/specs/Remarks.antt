@@ -4,7 +4,7 @@ use Rattle.std.proofs.Common.{sym, ap, ◌∙◌, inl, inr, arith}
 use Rattle.refusal.specs.declared.Refusal.{Refusal}
 use Rattle.refusal.specs.Result.{unless, then, err≢ok, unless_ok}
 use Rattle.refusal.specs.Refusals.{number_of}
-use Rattle.refusal.specs.declared.Refusal.TheVariants.{TooLong, NotUtf8, NotATree, WrongAnswers}
+use Rattle.refusal.specs.declared.Refusal.TheVariants.{TooLong, NotUtf8, NoRoom, NotATree, WrongAnswers}
 use Rattle.utf8.specs.Utf8.{is_utf8, decode}
 use Rattle.utf8.specs.Limits.{value_limit, admitted}
 use Rattle.utf8.proofs.Limits.{admitted_ok}
@@ -17,6 +17,7 @@ use Rattle.grammar.specs.Print.{in_tokens, print, printed}
 use Rattle.grammar.specs.Reading.{shallow, node_limit, print_limit}
 use Rattle.grammar.specs.Rows.{span}
 use Rattle.grammar.specs.Bytes.{bytes_of, is_tree, tree_at, tree_of, tree_limit}
+use Rattle.grammar.specs.Outcome.{Written, answer_of, accepted}
 use Rattle.grammar.specs.Pack.{IsBytes}
 use Rattle.grammar.proofs.Theorems as grammar
 use Rattle.semantics.specs.Rules.{is_unknown, is_neutral}
@@ -24,10 +25,11 @@ use Rattle.semantics.specs.Presence.{failed, oracle_of, answers_fit}
 use Rattle.semantics.proofs.Evaluated as evaluated
 use Rattle.semantics.specs.Evaluated.{evaluates}
 use Rattle.semantics.specs.Truth.{truth}
+use Rattle.semantics.specs.Violations.{violations, number_bytes}
 use Rattle.semantics.proofs.Sentences.{answered_unknown}
 use Rattle.semantics.proofs.Unknown as unknown
 use Rattle.semantics.specs.Unknown.{UnregisteredAmong}
-use Rattle.semantics.specs.Answers.{presence_by, eval_answer, truth_answer}
+use Rattle.semantics.specs.Answers.{presence_by, eval_answer, with_numbers, verdicts_outcome, verdicts_answer}
 
 -- the sizes of a tree, and of its print
 pub record Small (b : List ℕ) (e : Expr) : Type 0 where
@@ -83,42 +85,61 @@ unknown_cited tree answers h =
     let u = unknown.unknown_cited (oracle_of answers) 0 t.0 p.1 in
     record { expr = t.0; is_of = t.1; number = u.number; is_evaluated = u.is_evaluated; answer = answered_unknown (get_or answers u.number failed) u.answer }
 
--- format truth is Unknown only if a cited Format or Zeitpunkt condition is Unregistered
-pub truth_unknown_cited : (tree value : List ℕ) → truth_answer tree value ≡ Ok Unknown → (e : Expr) × (tree_of tree ≡ Ok e) × UnregisteredAmong value (citations e)
-unfolding truth_answer
-truth_unknown_cited tree value h =
-    let t = then_ok (tree_of tree) (λ e. admitted value_limit value (Ok (truth value e))) Unknown h in
-    let p = admitted_ok value_limit value (Ok (truth value t.0)) Unknown t.2 in
-    let same : Ok (truth value t.0) ≡ Ok Unknown = p.1 in
-    let one : truth value t.0 ≡ Unknown = cc in
-    (t.0, t.1, unknown.truth_unknown_cited value 0 t.0 (ap is_unknown one))
+-- the tree is that of an expression with this format truth and so many violations
+pub record HasVerdicts (tree value : List ℕ) (v : Truth) (k : ℕ) : Type 0 where
+  pub expr : Expr
+  pub is_of : tree_of tree ≡ Ok expr
+  pub is_truth : truth value expr ≡ v
+  pub is_count : length (violations value expr) ≡ k
 
--- one of the refusals that format truth can give
-abbrev pub TruthRefusal : ℕ → Type 0
-TruthRefusal k = (k ≡ number_of NotATree) ⊎ ((k ≡ number_of TooLong) ⊎ (k ≡ number_of NotUtf8))
+-- what `verdicts` answers is the format truth of the tree's expression, and the count of its violations
+pub verdicts_are : (tree value : List ℕ) (n : ℕ) (v : Truth) (k : ℕ) → answer_of (verdicts_answer tree value) n ≡ Ok (v, k) → HasVerdicts tree value v k
+unfolding verdicts_answer
+verdicts_are tree value n v k h =
+    let a = accepted (verdicts_answer tree value) n (v, k) h in
+    let w : Written (Truth × ℕ) = record { answer = (v, k); bytes = a.bytes } in
+    let t = then_ok (tree_of tree) (λ e. admitted value_limit value (verdicts_outcome value e)) w a.came in
+    let p = admitted_ok value_limit value (verdicts_outcome value t.0) w t.2 in
+    let other : verdicts_outcome value t.0 ≡ Ok w = p.1 in
+    let same : with_numbers (truth value t.0) (violations value t.0) ≡ w = cc in
+    record { expr = t.0; is_of = t.1; is_truth = ap (λ x. x.answer.0) same; is_count = ap (λ x. x.answer.1) same }
 
--- 7 and 8 never arise in format truth: what is refused is refused with 15, 10 or 11
-pub truth-refusals : (tree value : List ℕ) (why : Refusal) → truth_answer tree value ≡ Err why → TruthRefusal (number_of why)
-unfolding truth_answer tree_of then admitted
-truth-refusals tree value why h = by (is_tree tree) (leb (length value) value_limit) (is_utf8 value) h
+-- a format truth that `verdicts` answers is Unknown only if a cited Format or Zeitpunkt condition is Unregistered
+pub truth_unknown_cited : (tree value : List ℕ) (n k : ℕ) → answer_of (verdicts_answer tree value) n ≡ Ok (Unknown, k)
+    → (e : Expr) × (tree_of tree ≡ Ok e) × UnregisteredAmong value (citations e)
+truth_unknown_cited tree value n k h =
+    let t = verdicts_are tree value n Unknown k h in
+    (t.expr, t.is_of, unknown.truth_unknown_cited value 0 t.expr (ap is_unknown t.is_truth))
+
+-- one of the refusals that `verdicts` can give
+abbrev pub VerdictsRefusal : ℕ → Type 0
+VerdictsRefusal k = (k ≡ number_of NotATree) ⊎ ((k ≡ number_of TooLong) ⊎ ((k ≡ number_of NotUtf8) ⊎ (k ≡ number_of NoRoom)))
+
+-- `verdicts` refuses with 15, 10, 11 or 14 alone: 7 and 8 never arise
+pub verdicts_refusals : (tree value : List ℕ) (n : ℕ) (why : Refusal) → answer_of (verdicts_answer tree value) n ≡ Err why → VerdictsRefusal (number_of why)
+unfolding verdicts_answer tree_of then admitted answer_of
+verdicts_refusals tree value n why h = by (is_tree tree) (leb (length value) value_limit) (is_utf8 value) h
   where
-    number : {m n : Refusal} → ◌≡◌ {A = Result Truth Refusal} (Err m) (Err n) → number_of n ≡ number_of m
-    number {m} {n} h = let e : n ≡ m = cc in ap number_of e
+    number : {x y : Refusal} → ◌≡◌ {A = Result (Truth × ℕ) Refusal} (Err x) (Err y) → number_of y ≡ number_of x
+    number {x} {y} h = let e : y ≡ x = cc in ap number_of e
+
+    room : (fits : Bool) (a : Truth × ℕ) → unless fits NoRoom (Ok a) ≡ Err why → number_of why ≡ number_of NoRoom
+    room true a h = absurd (err≢ok (sym h))
+    room false a h = number h
 
     by : (t l u : Bool)
-        → then (unless t NotATree (Ok (tree_at tree 0))) (λ e. unless l TooLong (unless u NotUtf8 (Ok (truth value e)))) ≡ Err why → TruthRefusal (number_of why)
+        → answer_of (then (unless t NotATree (Ok (tree_at tree 0))) (λ e. unless l TooLong (unless u NotUtf8 (verdicts_outcome value e)))) n ≡ Err why
+        → VerdictsRefusal (number_of why)
     by false l u h = inl (number h)
     by true false u h = inr (inl (number h))
-    by true true false h = inr (inr (number h))
-    by true true true h = absurd (err≢ok (sym h))
+    by true true false h = inr (inr (inl (number h)))
+    by true true true h =
+        let ns = violations value (tree_at tree 0) in
+        inr (inr (inr (room (leb (length (number_bytes ns)) n) (truth value (tree_at tree 0), length ns) h)))
 
--- format truth is False, Unknown or True
-pub truth-filled : (tree value : List ℕ) → IsBytes tree → (v : Truth) → truth_answer tree value ≡ Ok v → is_neutral v ≡ false
-unfolding truth_answer
-truth-filled tree value i v h =
-    let t = then_ok (tree_of tree) (λ e. admitted value_limit value (Ok (truth value e))) v h in
-    let f = (grammar.tree_is_bytes tree i t.0 t.1).1 in
-    let p = admitted_ok value_limit value (Ok (truth value t.0)) v t.2 in
-    let same : Ok (truth value t.0) ≡ Ok v = p.1 in
-    let one : truth value t.0 ≡ v = cc in
-    sym (ap is_neutral one) ∙ unknown.truth-filled value 0 t.0 f.wide
+-- a format truth that `verdicts` answers is False, Unknown or True
+pub truth-filled : (tree value : List ℕ) → IsBytes tree → (n : ℕ) (v : Truth) (k : ℕ) → answer_of (verdicts_answer tree value) n ≡ Ok (v, k) → is_neutral v ≡ false
+truth-filled tree value i n v k h =
+    let t = verdicts_are tree value n v k h in
+    let f = (grammar.tree_is_bytes tree i t.expr t.is_of).1 in
+    sym (ap is_neutral t.is_truth) ∙ unknown.truth-filled value 0 t.expr f.wide

@@ -1,6 +1,6 @@
--- Judging: what citations count as, numbers listed and taken back, the walk over the rows, and what `truth` and `violations` answer. Assumes nothing.
+-- Judging: what citations count as, numbers listed and taken back, the walk over the rows, and what `verdicts` answers. Assumes nothing.
 use Rattle.std.specs.Prelude.{Result, Ok, Err}
-use mathlib.Core.Path.{◌≡◌, refl, sym, ap, ◌∙◌, subst}
+use mathlib.Core.Path.{◌≡◌, refl, sym, ap, ap₂, ◌∙◌, subst}
 use mathlib.Core.List.{List, [], ◌∷◌, ◌++◌, append_assoc, append-nil}
 use mathlib.Core.Logic.{◌⊎◌, inl, inr}
 use mathlib.Core.Bool.{Bool, true, false, cond}
@@ -8,9 +8,11 @@ use Prim.Native.Nat.{ℕ, ◌+◌, ◌-◌, ◌*◌, ◌/◌, ◌≤◌, ◌<◌
 use native.Mathlib.Omega.{arith}
 use lib.ListN.{length, get_or, take, length-append}
 use lib.Seq.{length-take-le, take-take, take-append-le}
-use Rattle.refusal.specs.Result.{then, map_ok}
+use Rattle.refusal.specs.Result.{unless, then, map_ok}
 use Rattle.refusal.specs.declared.Refusal.{Refusal}
 use Rattle.refusal.specs.declared.Refusal.TheVariants.{NotATree, NoRoom, WrongAnswers}
+use lib.Dec.{leb}
+use Rattle.utf8.specs.Utf8.{is_utf8}
 use Rattle.utf8.specs.Limits.{value_limit, admitted}
 use Rattle.citation.specs.declared.ConditionKind.{ConditionKind}
 use Rattle.citation.specs.declared.ConditionKind.TheVariants.{Voraussetzung, Hinweis, Format, Wiederholbarkeit, Zeitpunkt, Paket, Other}
@@ -38,7 +40,7 @@ use Rattle.semantics.specs.Kept.{EachCited}
 use Rattle.semantics.proofs.Kept.{truth_same, violations_same}
 use Rattle.semantics.proofs.Sizes.{numbers_length, violations_few}
 use Rattle.semantics.specs.Presence.{answers_fit}
-use Rattle.semantics.specs.Answers.{presence_by, numbered, list_outcome, truth_answer, violations_answer, eval_and_truth_answer}
+use Rattle.semantics.specs.Answers.{presence_by, with_numbers, verdicts_outcome, verdicts_answer, admitted_presence, eval_and_truth_answer}
 use Rattle.fields.specs.Appended.{Appended}
 use Rattle.fields.proofs.Appends.{same, whole, two_size}
 use Rattle.tree.specs.Walk.{number_at, first_at, text_at}
@@ -334,65 +336,66 @@ module _ (value b : List ℕ) (tree : is_tree b ≡ true) where
       }
 
   module _ {base list : List ℕ} {r : Judged} (j : TreeJudged value b base list r) where
-    module _ (k : length list ≡ length base) (room : 2 * cites b ≤ length base) where
-      -- what is listed fits into the list
-      pub list_fits : r.at ≤ length list
-      list_fits = omega (arith, j.listed.ends, violations_few (counts_on value) 0 (tree_at b 0), (root b tree).counts, k, room)
+    -- what is listed fits into the list
+    pub list_fits : length list ≡ length base → 2 * cites b ≤ length base → r.at ≤ length list
+    list_fits k room = omega (arith, j.listed.ends, violations_few (counts_on value) 0 (tree_at b 0), (root b tree).counts, k, room)
 
-      -- and can be cut from it
-      pub list_cut : r.at ≡ length (take r.at list)
-      list_cut = sym (length-take-le r.at list list_fits)
-
-    module _ (out : List ℕ) where
+    module _ (lent : List ℕ) where
       -- 14
-      pub list_short : length out < r.at → record { result_value : Err NoRoom ≡ answer_of (list_outcome value (tree_at b 0)) (length out); out_after : out ≡ written_of (list_outcome value (tree_at b 0)) out }
-      list_short l =
-          let w = numbered (violations value (tree_at b 0)) in
-          let short : length out < length w.bytes = omega (arith, l, j.listed.ends, numbers_length (violations value (tree_at b 0))) in
-          record { result_value = sym (answer_short w (length out) short); out_after = sym (written_short w out short) }
+      pub verdicts_short : length lent < r.at → record { result_value : Err NoRoom ≡ answer_of (verdicts_outcome value (tree_at b 0)) (length lent); list_after : lent ≡ written_of (verdicts_outcome value (tree_at b 0)) lent }
+      verdicts_short l =
+          let w = with_numbers (truth value (tree_at b 0)) (violations value (tree_at b 0)) in
+          let short : length lent < length w.bytes = omega (arith, l, j.listed.ends, numbers_length (violations value (tree_at b 0))) in
+          record { result_value = sym (answer_short w (length lent) short); list_after = sym (written_short w lent short) }
 
-      -- their count, and their numbers
-      pub list_done : {new : List ℕ} {q : ℕ} → r.at ≤ length out → Appended (take r.at list) 0 out new q
-          → record { result_value : Ok (r.at / 2) ≡ answer_of (list_outcome value (tree_at b 0)) (length out); out_after : new ≡ written_of (list_outcome value (tree_at b 0)) out }
-      list_done {new} {q} l p =
+      -- the truth, the count of the violations, and their numbers
+      pub verdicts_written : {new : List ℕ} {q : ℕ} → r.at ≤ length lent → Appended (take r.at list) 0 lent new q
+          → record { result_value : Ok (r.truth, r.at / 2) ≡ answer_of (verdicts_outcome value (tree_at b 0)) (length lent); list_after : new ≡ written_of (verdicts_outcome value (tree_at b 0)) lent }
+      verdicts_written {new} {q} l p =
           let ns = violations value (tree_at b 0) in
-          let w = numbered ns in
-          let fits : length w.bytes ≤ length out = omega (arith, l, j.listed.ends, numbers_length ns) in
+          let w = with_numbers (truth value (tree_at b 0)) ns in
+          let fits : length w.bytes ≤ length lent = omega (arith, l, j.listed.ends, numbers_length ns) in
           let half : r.at / 2 ≡ length ns = omega (arith, j.listed.ends) in
-          record { result_value = ap Ok half ∙ sym (answer_fits w (length out) fits); out_after = whole (same j.listed.has p) ∙ sym (written_fits w out fits) }
+          record {
+            result_value = ap₂ (λ (v : Truth) (n : ℕ). Ok (v, n)) j.is half ∙ sym (answer_fits w (length lent) fits);
+            list_after = whole (same j.listed.has p) ∙ sym (written_fits w lent fits);
+          }
 
 module _ (b value : List ℕ) where
   -- 15
-  pub truth-no-tree : is_tree b ≡ false → Err NotATree ≡ truth_answer b value
-  unfolding truth_answer then
-  truth-no-tree h = rw (no-tree b h)
-
-  pub violations-no-tree : (out : List ℕ) → is_tree b ≡ false → record { result_value : Err NotATree ≡ answer_of (violations_answer b value) (length out); out_after : out ≡ written_of (violations_answer b value) out }
-  unfolding violations_answer answer_of written_of then
-  violations-no-tree out h = record { result_value = rw (no-tree b h); out_after = rw (no-tree b h) }
+  pub verdicts-no-tree : (lent : List ℕ) → is_tree b ≡ false → record { result_value : Err NotATree ≡ answer_of (verdicts_answer b value) (length lent); list_after : lent ≡ written_of (verdicts_answer b value) lent }
+  unfolding verdicts_answer answer_of written_of then
+  verdicts-no-tree lent h = record { result_value = rw (no-tree b h); list_after = rw (no-tree b h) }
 
   module _ (tree : is_tree b ≡ true) where
     -- 10 and 11
-    pub truth_turned : (k : Refusal) → ((r : Result Truth Refusal) → admitted value_limit value r ≡ Err k) → Err k ≡ truth_answer b value
-    unfolding truth_answer then
-    truth_turned k a = rw (root b tree).is (sym (a (Ok (truth value (tree_at b 0)))))
+    pub verdicts_turned : (lent : List ℕ) (k : Refusal) → ((r : Outcome (Truth × ℕ)) → admitted value_limit value r ≡ Err k)
+        → record { result_value : Err k ≡ answer_of (verdicts_answer b value) (length lent); list_after : lent ≡ written_of (verdicts_answer b value) lent }
+    unfolding verdicts_answer answer_of written_of then
+    verdicts_turned lent k a =
+        let is = a (verdicts_outcome value (tree_at b 0)) in
+        rw ((root b tree).is, is) record { result_value = refl; list_after = refl }
 
-    -- the truth
-    pub truth_done : (v : Truth) → ((r : Result Truth Refusal) → admitted value_limit value r ≡ r) → v ≡ truth value (tree_at b 0) → Ok v ≡ truth_answer b value
-    unfolding truth_answer then
-    truth_done v a e = rw (root b tree).is (ap Ok e ∙ sym (a (Ok (truth value (tree_at b 0)))))
+    -- the verdicts
+    pub verdicts_done : ((r : Outcome (Truth × ℕ)) → admitted value_limit value r ≡ r) → verdicts_outcome value (tree_at b 0) ≡ verdicts_answer b value
+    unfolding verdicts_answer then
+    verdicts_done a = rw (root b tree).is (sym (a (verdicts_outcome value (tree_at b 0))))
 
-    -- 10 and 11
-    pub violations_turned : (out : List ℕ) (k : Refusal) → ((r : Outcome ℕ) → admitted value_limit value r ≡ Err k) → record { result_value : Err k ≡ answer_of (violations_answer b value) (length out); out_after : out ≡ written_of (violations_answer b value) out }
-    unfolding violations_answer answer_of written_of then
-    violations_turned out k a =
-        let is = a (list_outcome value (tree_at b 0)) in
-        rw ((root b tree).is, is) record { result_value = refl; out_after = refl }
+map-unless : {A B : Type 0} (f : A → B) (t : Bool) (why : Refusal) (r : Result A Refusal) → map_ok f (unless t why r) ≡ unless t why (map_ok f r)
+unfolding map_ok
+map-unless f true why r = refl
+map-unless f false why r = refl
 
-    -- the violations
-    pub violations_done : ((r : Outcome ℕ) → admitted value_limit value r ≡ r) → list_outcome value (tree_at b 0) ≡ violations_answer b value
-    unfolding violations_answer then
-    violations_done a = rw (root b tree).is (sym (a (list_outcome value (tree_at b 0))))
+-- what is said of an answer behind 16 and the tests of a value can be said in front of them
+pub map_tested : {A B : Type 0} (f : A → B) (fit : Bool) (value : List ℕ) (r : Result A Refusal)
+    → map_ok f (unless fit WrongAnswers (admitted value_limit value r)) ≡ unless fit WrongAnswers (admitted value_limit value (map_ok f r))
+unfolding admitted
+map_tested f fit value r =
+    map-unless f fit WrongAnswers _ ∙ ap (unless fit WrongAnswers) (map-unless f (leb (length value) value_limit) _ _ ∙ ap (unless (leb (length value) value_limit) _) (map-unless f (is_utf8 value) _ r))
+
+-- 16
+pub presence_unfit : (answers value : List ℕ) (e : Expr) → answers_fit e answers ≡ false → Err WrongAnswers ≡ admitted_presence answers value e
+presence_unfit answers value e k = rw k
 
 module _ (b answers value : List ℕ) where
   -- 15
@@ -406,23 +409,19 @@ module _ (b answers value : List ℕ) where
     unfolding eval_and_truth_answer then
     both_unfit k = rw ((root b tree).is, k)
 
-    module _ (fit : answers_fit (tree_at b 0) answers ≡ true) where
-      -- the value's 10 and 11
-      pub both_turned : (k : Refusal) → ((r : Result (Truth × Truth) Refusal) → admitted value_limit value r ≡ Err k) → Err k ≡ eval_and_truth_answer b answers value
+    module _ (o : Result Truth Refusal) (h : o ≡ admitted_presence answers value (tree_at b 0)) where
+      both_is : (x : Result Truth Refusal) → o ≡ x → map_ok (λ p. (p, truth value (tree_at b 0))) x ≡ eval_and_truth_answer b answers value
       unfolding eval_and_truth_answer then
-      both_turned k a = rw ((root b tree).is, fit) (sym (a _))
+      both_is x e =
+          let f : Truth → Truth × Truth = λ p. (p, truth value (tree_at b 0)) in
+          rw (root b tree).is (ap (map_ok f) (sym e ∙ h) ∙ map_tested f (answers_fit (tree_at b 0) answers) value (presence_by answers (tree_at b 0)))
 
-      module _ (a : (r : Result (Truth × Truth) Refusal) → admitted value_limit value r ≡ r) (o : Result Truth Refusal) (e : o ≡ presence_by answers (tree_at b 0)) where
-        both_is : (x : Result Truth Refusal) → o ≡ x → map_ok (λ p. (p, truth value (tree_at b 0))) x ≡ eval_and_truth_answer b answers value
-        unfolding eval_and_truth_answer then
-        both_is x h = rw ((root b tree).is, fit) (ap (map_ok (λ p. (p, truth value (tree_at b 0)))) (sym h ∙ e) ∙ sym (a _))
+      -- its refusals
+      pub both_refused : (why : Refusal) → o ≡ Err why → Err why ≡ eval_and_truth_answer b answers value
+      unfolding map_ok
+      both_refused why e = both_is (Err why) e
 
-        -- 7 and 8
-        pub both_refused : (why : Refusal) → o ≡ Err why → Err why ≡ eval_and_truth_answer b answers value
-        unfolding map_ok
-        both_refused why h = both_is (Err why) h
-
-        -- both
-        pub both_done : (p f : Truth) → o ≡ Ok p → f ≡ truth value (tree_at b 0) → Ok (p, f) ≡ eval_and_truth_answer b answers value
-        unfolding map_ok
-        both_done p f h g = ap (λ x. Ok (p, x)) g ∙ both_is (Ok p) h
+      -- both
+      pub both_done : (p f : Truth) → o ≡ Ok p → f ≡ truth value (tree_at b 0) → Ok (p, f) ≡ eval_and_truth_answer b answers value
+      unfolding map_ok
+      both_done p f e g = ap (λ x. Ok (p, x)) g ∙ both_is (Ok p) e

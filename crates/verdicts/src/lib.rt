@@ -9,7 +9,7 @@ ghost use Rattle.grammar.specs.declared.NodeKind.TheVariants.{Citation};
 ghost use Rattle.grammar.specs.Outcome.{answer_of, written_of};
 ghost use Rattle.semantics.specs.Truth.{cited_truth};
 ghost use Rattle.semantics.specs.Truth as format;
-ghost use Rattle.semantics.specs.Answers.{truth_answer, list_outcome, violations_answer, eval_and_truth_answer};
+ghost use Rattle.semantics.specs.Answers.{verdicts_outcome, verdicts_answer, admitted_presence, eval_and_truth_answer};
 ghost use Rattle.tree.specs.Walk.{first_at};
 ghost use Rattle.verdicts.specs.Tallies.{rule_of};
 ghost use Rattle.verdicts.specs.Judged.{Room, CitesJudged, CitedJudged, RowJudged, TreeJudged};
@@ -145,58 +145,62 @@ fn truth_of(tree: Tree, value: &[u8]) -> Truth
     judge_tree(tree, value, &mut truths, &mut list).truth
 }
 
-// The format truth of a tree for a value.
-pub fn truth(tree: &[u8], value: &[u8]) -> Result<Truth, Refusal>
-    ensures { result ≡ truth_answer tree.now value.now }
-{
-    let tree = Tree::new(tree)?;
-    utf8::admit(value, utf8::VALUE_LIMIT)?;
-    Ok(truth_of(tree, value))
-}
-
-// The numbers of the violations of a tree. They are listed in a scratch, since more may be listed for a time than stands there in the end.
-fn list_tree(
+// The format truth of a tree and how many violations it has; their numbers then begin the list. They are listed in a scratch, since more may
+// be listed for a time than stands there in the end.
+fn judge_into(
     tree: Tree,
     value: &[u8],
     truths: &mut [Truth],
+    scratch: &mut [u8],
     list: &mut [u8],
-    out: &mut [u8],
-) -> Result<usize, Refusal>
-    requires { Room tree.bytes.now (length truths.old) (length list.old) }
-    ensures result_value { result ≡ answer_of (list_outcome value.now (tree_at tree.entry.bytes.now 0)) (length out.old) }
-    ensures out_after { out.new ≡ written_of (list_outcome value.now (tree_at tree.entry.bytes.now 0)) out.old }
+) -> Result<(Truth, usize), Refusal>
+    requires { Room tree.bytes.now (length truths.old) (length scratch.old) }
+    ensures result_value { result ≡ answer_of (verdicts_outcome value.now (tree_at tree.entry.bytes.now 0)) (length list.old) }
+    ensures list_after { list.new ≡ written_of (verdicts_outcome value.now (tree_at tree.entry.bytes.now 0)) list.old }
 {
-    let end = judge_tree(tree, value, truths, list).at;
-    if out.len() < end {
+    let judged = judge_tree(tree, value, truths, scratch);
+    if list.len() < judged.at {
         return Err(Refusal::NoRoom);
     }
-    put_text(&list[..end], out, 0);
-    Ok(end / 2)
+    put_text(&scratch[..judged.at], list, 0);
+    Ok((judged.truth, judged.at / 2))
 }
 
-// The same, with a scratch of its own, which is small for few citations.
-fn list_of(tree: Tree, value: &[u8], out: &mut [u8]) -> Result<usize, Refusal>
-    ensures result_value { result ≡ answer_of (list_outcome value.now (tree_at tree.entry.bytes.now 0)) (length out.old) }
-    ensures out_after { out.new ≡ written_of (list_outcome value.now (tree_at tree.entry.bytes.now 0)) out.old }
+// The format truth of a tree that was tested and how many violations it has, for any bytes as a value; their numbers then begin the list: 14 is
+// its one refusal. The scratch is small for few citations.
+pub fn verdicts_of(tree: Tree, value: &[u8], list: &mut [u8]) -> Result<(Truth, usize), Refusal>
+    ensures result_value { result ≡ answer_of (verdicts_outcome value.now (tree_at tree.entry.bytes.now 0)) (length list.old) }
+    ensures list_after { list.new ≡ written_of (verdicts_outcome value.now (tree_at tree.entry.bytes.now 0)) list.old }
 {
     if tree.cite_count() <= FEW {
         let mut truths = [Truth::False; FEW];
-        let mut list = [0u8; FEW_SIZE];
-        return list_tree(tree, value, &mut truths, &mut list, out);
+        let mut scratch = [0u8; FEW_SIZE];
+        return judge_into(tree, value, &mut truths, &mut scratch, list);
     }
     let mut truths = [Truth::False; CITATION_LIMIT];
-    let mut list = [0u8; LIST_SIZE];
-    list_tree(tree, value, &mut truths, &mut list, out)
+    let mut scratch = [0u8; LIST_SIZE];
+    judge_into(tree, value, &mut truths, &mut scratch, list)
 }
 
-// How many violations a tree has for a value; their numbers then begin the lent bytes.
-pub fn violations(tree: &[u8], value: &[u8], out: &mut [u8]) -> Result<usize, Refusal>
-    ensures result_value { result ≡ answer_of (violations_answer tree.now value.now) (length out.old) }
-    ensures out_after { out.new ≡ written_of (violations_answer tree.now value.now) out.old }
+// The format truth of a tree for a value and how many violations it has; their numbers then begin the list: 15, the value's 10 and 11, 14.
+pub fn verdicts(tree: &[u8], value: &[u8], list: &mut [u8]) -> Result<(Truth, usize), Refusal>
+    ensures result_value { result ≡ answer_of (verdicts_answer tree.now value.now) (length list.old) }
+    ensures list_after { list.new ≡ written_of (verdicts_answer tree.now value.now) list.old }
 {
     let tree = Tree::new(tree)?;
     utf8::admit(value, utf8::VALUE_LIMIT)?;
-    list_of(tree, value, out)
+    verdicts_of(tree, value, list)
+}
+
+// The presence of a tree that was tested, after tests of the answers and the value: 16, the value's 10 and 11, then 7 and 8 as met.
+pub fn eval_admitted(tree: Tree, answers: &[u8], value: &[u8]) -> Result<Truth, Refusal>
+    ensures { result ≡ admitted_presence answers.now value.now (tree_at tree.entry.bytes.now 0) }
+{
+    if !answers_fit(tree, answers) {
+        return Err(Refusal::WrongAnswers);
+    }
+    utf8::admit(value, utf8::VALUE_LIMIT)?;
+    eval_tree(tree, answers)
 }
 
 // The presence and the format truth of a tree: 15, 16, the value's 10 and 11, then 7 and 8 as met.
@@ -204,10 +208,6 @@ pub fn eval_and_truth(tree: &[u8], answers: &[u8], value: &[u8]) -> Result<(Trut
     ensures { result ≡ eval_and_truth_answer tree.now answers.now value.now }
 {
     let tree = Tree::new(tree)?;
-    if !answers_fit(tree, answers) {
-        return Err(Refusal::WrongAnswers);
-    }
-    utf8::admit(value, utf8::VALUE_LIMIT)?;
-    let found = eval_tree(tree, answers)?;
+    let found = eval_admitted(tree, answers, value)?;
     Ok((found, truth_of(tree, value)))
 }

@@ -1,26 +1,14 @@
-use mathlib.Core.Path.{sym, ◌∙◌}
 use Rattle.std.proofs.lemmas.Result.{err_from_is_err_and}
-use Rattle.utf8.specs.Limits.{value_limit}
-use Rattle.utf8.proofs.Limits.{admitted_fine, admitted_refused}
-use Rattle.verdicts.proofs.Laws.{both-no-tree, both_unfit, both_turned, both_refused, both_done}
+use Rattle.verdicts.proofs.Laws.{both-no-tree, both_refused, both_done}
 use Rattle.verdicts.proofs.eval_and_truth.Goals as goal
 
 pub returns-in_err-tree : goal.returns-in_err-tree
 returns-in_err-tree c = let p = err_from_is_err_and c.from_residual.result c.from_residual.ensures.1 in
     let e = c.in_err-tree.ensures in rw (p.1, p.2, e.0) (both-no-tree _ _ _ e.1)
 
-pub returns-then-not-answers_fit : goal.returns-then-not-answers_fit
-returns-then-not-answers_fit c = rw (← c.in_ok-tree.ensures) (both_unfit _ _ _ c.in_ok-tree.tree.tested (sym c.answers_fit.ensures ∙ c.if-not-answers_fit.true))
-
-pub returns-in_err-admit : goal.returns-in_err-admit
-returns-in_err-admit c = let p = err_from_is_err_and c.from_residual-in_err-admit.result c.from_residual-in_err-admit.ensures.1 in
-    rw (p.1, p.2, ← c.in_ok-tree.ensures)
-    (both_turned _ _ _ c.in_ok-tree.tree.tested (sym c.answers_fit.ensures ∙ c.if-not-answers_fit.false) _ (λ r. admitted_refused value_limit c.args.value.now c.admit.ensures c.in_err-admit.was r))
-
 pub returns-in_err-found : goal.returns-in_err-found
 returns-in_err-found c = let p = err_from_is_err_and c.from_residual-in_err-found.result c.from_residual-in_err-found.ensures.1 in
-    rw (p.1, p.2, ← c.in_ok-tree.ensures)
-    (both_refused _ _ _ c.in_ok-tree.tree.tested (sym c.answers_fit.ensures ∙ c.if-not-answers_fit.false) (λ r. admitted_fine value_limit c.args.value.now c.admit.ensures c.in_ok-admit.was r) _ c.eval_tree.ensures _ c.in_err-found.was)
+    rw (p.1, p.2, ← c.in_ok-tree.ensures) (both_refused _ _ _ c.in_ok-tree.tree.tested _ c.eval_admitted.ensures _ c.in_err-found.was)
 
 pub returns : goal.returns
-returns c = rw (← c.in_ok-tree.ensures) (both_done _ _ _ c.in_ok-tree.tree.tested (sym c.answers_fit.ensures ∙ c.if-not-answers_fit.false) (λ r. admitted_fine value_limit c.args.value.now c.admit.ensures c.in_ok-admit.was r) _ c.eval_tree.ensures _ _ c.in_ok-found.was c.truth_of.ensures)
+returns c = rw (← c.in_ok-tree.ensures) (both_done _ _ _ c.in_ok-tree.tree.tested _ c.eval_admitted.ensures _ _ c.in_ok-found.was c.truth_of.ensures)
