@@ -121,8 +121,8 @@ static inline uint32_t ahb_eval(const uint8_t *tree, size_t tree_length, const u
 }
 
 /* The format truth of a tree for a value, and its violations: the citations that it violates, but for those in a group
- * that is True or Unknown. Their numbers are written to the beginning of list; of a list that is too short for them
- * AHB_NO_ROOM is all that is said. */
+ * that is True or Unknown. Their numbers are written to the beginning of list. If list is too short for them, the
+ * answer is AHB_NO_ROOM alone and list keeps its bytes; AHB_VIOLATIONS_SIZE bytes are always enough. */
 static inline uint64_t ahb_format_verdicts(const uint8_t *tree, size_t tree_length, const uint8_t *value,
                                            size_t value_length, uint8_t *list, size_t list_length) {
     uint8_t none = 0;

@@ -228,8 +228,8 @@ pub fn presence(tree: &[u8], answers: &[u8]) -> Result<Truth, Refusal> {
 }
 
 /// The format truth of a tree for a value, and how many violations it has: the citations that it violates, but for those in a
-/// group that is True or Unknown. Their numbers begin `list`, 2 bytes each, the low one first; of a list that is too short for
-/// them [`Refusal::NoRoom`] is all that is said.
+/// group that is True or Unknown. Their numbers begin `list`, 2 bytes each, the low one first. If `list` is too short for
+/// them, the answer is [`Refusal::NoRoom`] alone and `list` keeps its bytes; [`VIOLATIONS_SIZE`] bytes are always enough.
 pub fn verdicts(tree: &[u8], value: &[u8], list: &mut [u8]) -> Result<(Truth, usize), Refusal> {
     // A slice's pointer is never null, and `list` overlaps nothing.
     let answer = unsafe {

@@ -74,11 +74,13 @@ fn ask_tree(cases: &mut Cases, tree: &[u8], answers: &[u8], value: &[u8], citati
     ask_verdicts(cases, tree, value, citations);
 }
 
-/// Asks verdicts with a buffer that holds every list, or with one of few bytes.
+/// Asks verdicts with a buffer that holds every list, and now and then with one of few bytes too.
 pub fn ask_verdicts(cases: &mut Cases, tree: &[u8], value: &[u8], citations: usize) {
-    let few = cases.random.below(12);
-    let length = *cases.random.pick(&[2 * citations, few]);
-    cases.ask_lent(Verdicts, &[tree, value], length);
+    cases.ask_lent(Verdicts, &[tree, value], 2 * citations);
+    if cases.random.one_in(4) {
+        let few = cases.random.below(12);
+        cases.ask_lent(Verdicts, &[tree, value], few);
+    }
 }
 
 /// Random answers, equal for equal texts; 4 is rare.

@@ -79,7 +79,7 @@ tree_fits b e h =
     let same : tree_at b 0 ≡ e = cc in
     subst Fits same (root b t.0).fits
 
--- a truth, and no more violations than a tree has citations
+-- a truth, and no more violations than a tree may have citations
 abbrev pub CountFew : Truth × ℕ → Type 0
 CountFew x = x.1 ≤ citation_limit
 

@@ -194,7 +194,7 @@ fn put_named(tree: Tree, list: &[u8], count: usize, out: &mut [u8], at: usize) -
     w
 }
 
-// The format truth of a tree and how many violations it has; their numbers then begin the scratch.
+// The format truth of a tree and how many violations it has; their numbers then begin the scratch. That holds every list, so 14 does not arise.
 fn list_verdicts(tree: Tree, value: &[u8], scratch: &mut [u8]) -> (Truth, usize)
     requires { longest_list ≤ length scratch.old }
     ensures truth { result.0 ≡ format.truth value.now (tree_at tree.entry.bytes.now 0) }

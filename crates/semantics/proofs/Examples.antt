@@ -28,7 +28,7 @@ use Rattle.semantics.specs.Truth.{Counts, cited_truth, truth_with, truth}
 use Rattle.semantics.specs.Violations.{violations_with, violations, number_bytes}
 use Rattle.semantics.specs.Packages.{bytes_up_to, paket_bytes, rows_of, pakete}
 use Rattle.grammar.specs.Outcome.{answer_of, written_of}
-use Rattle.semantics.specs.Answers.{eval_answer, verdicts_answer, eval_and_truth_answer}
+use Rattle.semantics.specs.Answers.{eval_answer, verdicts_answer, admitted_presence, eval_and_truth_answer}
 
 -- a citation with a quoted text
 abbrev c : String → Expr
@@ -140,14 +140,30 @@ numbers_go_on : (truth_with second_false 0 (and2 "1" "1") ≡ True) × (truth_wi
 unfolding truth_with violations_with and_rule or_rule any citations
 numbers_go_on = (refl, refl, refl, refl)
 
--- verdicts into a buffer: the truth and the count, two bytes each number, and the old rest; 14 alone and the old bytes where it is too short
-sample_written : (answer_of (verdicts_answer (bytes_of sample) (bytes "0")) 3 ≡ Ok (False, 1))
-    × (written_of (verdicts_answer (bytes_of sample) (bytes "0")) (replicate 3 9) ≡ 3 ∷ 0 ∷ 9 ∷ [])
-    × (answer_of (verdicts_answer (bytes_of sample) (bytes "0")) 1 ≡ Err NoRoom)
-    × (written_of (verdicts_answer (bytes_of sample) (bytes "0")) (replicate 1 9) ≡ replicate 1 9)
-    × (answer_of (verdicts_answer (bytes_of sample) (bytes "5")) 0 ≡ Ok (True, 0))
+-- tree bytes, a value, the length of a buffer of 9s, what `verdicts` answers, and the buffer afterwards: 15 before the value's 10 and 11, and 14 after these
+abbrev calls : List (List ℕ × List ℕ × ℕ × Result (Truth × ℕ) Refusal × List ℕ)
+calls =
+    ([], replicate 1025 0xFF, 1, Err NotATree, 9 ∷ [])
+    ∷ (bytes_of sample, replicate 1025 0xFF, 1, Err TooLong, 9 ∷ [])
+    ∷ (bytes_of sample, 0xFF ∷ [], 1, Err NotUtf8, 9 ∷ [])
+    ∷ (bytes_of sample, bytes "0", 1, Err NoRoom, 9 ∷ [])
+    ∷ (bytes_of sample, bytes "0", 3, Ok (False, 1), 3 ∷ 0 ∷ 9 ∷ [])
+    ∷ (bytes_of sample, bytes "2", 0, Ok (True, 0), [])
+    ∷ (bytes_of (c "951"), bytes "0", 1, Ok (Unknown, 0), 9 ∷ [])
+    ∷ (bytes_of (and2 "902" "902"), bytes "-1", 4, Ok (False, 2), 0 ∷ 0 ∷ 1 ∷ 0 ∷ [])
+    ∷ []
+
+abbrev calls_said : List (List ℕ × List ℕ × ℕ × Result (Truth × ℕ) Refusal × List ℕ) → List (Result (Truth × ℕ) Refusal × List ℕ)
+calls_said [] = []
+calls_said (x ∷ xs) = (answer_of (verdicts_answer x.0 x.1) x.2, written_of (verdicts_answer x.0 x.1) (replicate x.2 9)) ∷ calls_said xs
+
+abbrev calls_wanted : List (List ℕ × List ℕ × ℕ × Result (Truth × ℕ) Refusal × List ℕ) → List (Result (Truth × ℕ) Refusal × List ℕ)
+calls_wanted [] = []
+calls_wanted (x ∷ xs) = (x.3, x.4) ∷ calls_wanted xs
+
+calls_hold : calls_said calls ≡ calls_wanted calls
 unfolding answer_of written_of verdicts_answer then admitted tree_of is_tree head_ok tiles size_of rows_from cited_from rows_ok row_ok cites_ok citable is_utf8 decode lead_of blank holds is_white tree_at forest_at first build place made firsts rests encode_char bytes_of packed head_bytes row_bytes cite_bytes two_bytes rows node op_kind many citations concat number_bytes truth_with cited_truth violations_with and_rule or_rule any kind_of kind_of_number number_up_to verdict rule_of judged against integer_of fraction_of
-sample_written = (refl, refl, refl, refl, refl)
+calls_hold = refl
 
 -- an expression, answer bytes, a value, and what `eval_and_truth` says: 16 before the value's 10 and 11, and these before 7 and 8
 abbrev both : List (Expr × List ℕ × List ℕ × Result (Truth × Truth) Refusal)
@@ -171,6 +187,15 @@ both_wanted (x ∷ xs) = x.3 ∷ both_wanted xs
 both_hold : both_said both ≡ both_wanted both
 unfolding eval_and_truth_answer then map_ok admitted tree_of is_tree head_ok tiles size_of rows_from cited_from rows_ok row_ok cites_ok citable is_utf8 decode lead_of blank holds is_white tree_at forest_at first build place made firsts rests encode_char bytes_of packed head_bytes row_bytes cite_bytes two_bytes rows node op_kind many citations concat answers_fit presence_with answered before and_rule or_rule xor_rule two_true any some_gate_with some_free_with every kind_of kind_of_number number_up_to truth_with cited_truth verdict rule_of judged against integer_of fraction_of
 both_hold = refl
+
+-- the same by the presence that `eval_admitted` answers, with the format truth beside it
+abbrev admitted_said : List (Expr × List ℕ × List ℕ × Result (Truth × Truth) Refusal) → List (Result (Truth × Truth) Refusal)
+admitted_said [] = []
+admitted_said (x ∷ xs) = map_ok (λ p. (p, truth x.2 x.0)) (admitted_presence x.1 x.2 x.0) ∷ admitted_said xs
+
+admitted_hold : admitted_said both ≡ both_wanted both
+unfolding map_ok admitted is_utf8 decode lead_of encode_char citations answers_fit presence_with answered before and_rule or_rule xor_rule two_true any some_gate_with some_free_with every kind_of kind_of_number number_up_to truth_with cited_truth verdict rule_of judged against integer_of fraction_of
+admitted_hold = refl
 
 -- the package rows of `[2P5..2] [1] [XP1..2] [7P] [3P258..n]`: the unreadable one has none
 packages : Expr

@@ -33,7 +33,7 @@ verdicts_outcome value e = Ok (with_numbers (truth value e) (violations value e)
 unfoldable pub verdicts_answer : (tree value : List ℕ) → Outcome (Truth × ℕ)
 verdicts_answer tree value = then (tree_of tree) (λ e. admitted value_limit value (verdicts_outcome value e))
 
--- presence by answer bytes that fit, beside a value that is admitted: 16, the value's 10 and 11, then 7 and 8 as met
+-- presence by answer bytes, once these fit and the value is admitted: 16, the value's 10 and 11, then 7 and 8 as met
 abbrev pub admitted_presence : (answers value : List ℕ) → Expr → Result Truth Refusal
 admitted_presence answers value e = unless (answers_fit e answers) WrongAnswers (admitted value_limit value (presence_by answers e))
 

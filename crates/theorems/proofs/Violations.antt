@@ -263,8 +263,8 @@ false_is : (v : Truth) → is_false v ≡ true → v ≡ False
 false_is v h = same_is v False (rw h at (at (λ v. not (is_false v) || same v False) refl v))
 
 -- so `verdicts` counts a violation exactly if the format truth that it answers is False
-pub listed_if_false : (tree value : List ℕ) (n : ℕ) (v : Truth) (k : ℕ) → answer_of (verdicts_answer tree value) n ≡ Ok (v, k) → (0 < k) ↔ (v ≡ False)
-listed_if_false tree value n v k h =
+pub listed_exactly_if_false : (tree value : List ℕ) (n : ℕ) (v : Truth) (k : ℕ) → answer_of (verdicts_answer tree value) n ≡ Ok (v, k) → (0 < k) ↔ (v ≡ False)
+listed_exactly_if_false tree value n v k h =
     let t = verdicts_are tree value n v k h in
     let p = violations_promised value t.expr in (
       λ l. by t.expr (is_false v) refl t.is_truth (omega (arith, l, t.is_count)),

@@ -276,8 +276,8 @@ module _ (first : ℕ) where
   pakete_from tree = map_ok (λ e. rowed (rows_from first 0 (citations e))) (tree_of tree)
 
   -- `verdicts`
-  unfoldable pub verdicts_answer_from : (tree value : List ℕ) → Outcome (Truth × ℕ)
-  verdicts_answer_from tree value = then (tree_of tree) (λ e. admitted value_limit value (Ok (with_numbers (truth_from first value e) (violations_from first value e))))
+  unfoldable pub verdicts_from : (tree value : List ℕ) → Outcome (Truth × ℕ)
+  verdicts_from tree value = then (tree_of tree) (λ e. admitted value_limit value (Ok (with_numbers (truth_from first value e) (violations_from first value e))))
 
   -- `eval_and_truth`
   unfoldable pub eval_and_truth_from : (tree answers value : List ℕ) → Result (Truth × Truth) Refusal
@@ -289,7 +289,7 @@ module _ (first : ℕ) where
 pub record AreNow (tree : List ℕ) : Type 0 where
   pub eval : (answers : List ℕ) → eval_from 901 tree answers ≡ eval_answer tree answers
   pub pakete : pakete_from 901 tree ≡ pakete_answer tree
-  pub verdicts : (value : List ℕ) → verdicts_answer_from 901 tree value ≡ verdicts_answer tree value
+  pub verdicts : (value : List ℕ) → verdicts_from 901 tree value ≡ verdicts_answer tree value
   pub eval_and_truth : (answers value : List ℕ) → eval_and_truth_from 901 tree answers value ≡ eval_and_truth_answer tree answers value
 
 -- a truth and a list before and now: the same, refusals among them, or Unknown and True, and no violation in either
@@ -307,7 +307,7 @@ pub record AsBefore (tree : List ℕ) : Type 0 where
   -- the package rows, their count, or the refusal
   pub pakete : pakete_from 900 tree ≡ pakete_answer tree
   -- the format truth and the violations in their order, or the refusal
-  pub verdicts : (value : List ℕ) → SettledVerdicts (verdicts_answer_from 900 tree value) (verdicts_answer tree value)
+  pub verdicts : (value : List ℕ) → SettledVerdicts (verdicts_from 900 tree value) (verdicts_answer tree value)
   -- presence and format truth together
   pub eval_and_truth : (answers value : List ℕ) → SettledBoth (eval_and_truth_from 900 tree answers value) (eval_and_truth_answer tree answers value)
 
@@ -321,8 +321,8 @@ module _ (tree : List ℕ) where
   unfolding pakete_from pakete_answer pakete
   pakete-same first h = ap (λ f. map_ok (λ e. rowed (f (citations e))) (tree_of tree)) (fun_ext (h 0))
 
-  verdicts_now : (value : List ℕ) → verdicts_answer_from 901 tree value ≡ verdicts_answer tree value
-  unfolding verdicts_answer_from verdicts_answer
+  verdicts_now : (value : List ℕ) → verdicts_from 901 tree value ≡ verdicts_answer tree value
+  unfolding verdicts_from verdicts_answer
   verdicts_now value = ap (λ c. then (tree_of tree) (λ e. admitted value_limit value (Ok (with_numbers (truth_with c 0 e) (violations_with c 0 e))))) (counts_now value)
 
   both_now : (answers value : List ℕ) → eval_and_truth_from 901 tree answers value ≡ eval_and_truth_answer tree answers value
@@ -372,8 +372,8 @@ both-settles (Ok p) value e = by (truth-settles value e)
     by (inr m) = inr (p, ap (λ t. Ok (p, t)) m.0, ap (λ t. Ok (p, t)) m.1)
 
 module _ (tree : List ℕ) where
-  verdicts_answer_settles : (value : List ℕ) → SettledVerdicts (verdicts_answer_from 900 tree value) (verdicts_answer tree value)
-  unfolding verdicts_answer_from verdicts_answer then
+  verdicts_answer_settles : (value : List ℕ) → SettledVerdicts (verdicts_from 900 tree value) (verdicts_answer tree value)
+  unfolding verdicts_from verdicts_answer then
   verdicts_answer_settles value = by (tree_of tree)
     where
       by : (r : Result Expr Refusal) → SettledVerdicts

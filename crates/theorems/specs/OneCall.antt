@@ -42,7 +42,7 @@ pub record SaidTogether (tree value buffer : List ℕ) : Type 0 where
 -- what the three come to before the buffer is looked at: one refusal, or one truth and one list
 data Together : Result Truth Refusal → Outcome ℕ → Outcome (Truth × ℕ) → Type 0 where
   refused : (why : Refusal) → Together (Err why) (Err why) (Err why)
-  judged : (v : Truth) (ns : List ℕ) → Together (Ok v) (Ok (counted_numbers ns)) (Ok (with_numbers v ns))
+  answered : (v : Truth) (ns : List ℕ) → Together (Ok v) (Ok (counted_numbers ns)) (Ok (with_numbers v ns))
 
 together : (tree value : List ℕ) → Together (truth_alone tree value) (violations_alone tree value) (verdicts_answer tree value)
 unfolding truth_alone violations_alone verdicts_answer then admitted
@@ -55,12 +55,12 @@ together tree value = by (tree_of tree) (leb (length value) value_limit) (is_utf
     by (Err why) l u = refused why
     by (Ok e) false u = refused TooLong
     by (Ok e) true false = refused NotUtf8
-    by (Ok e) true true = judged (truth value e) (violations value e)
+    by (Ok e) true true = answered (truth value e) (violations value e)
 
 answers_together : (t : Result Truth Refusal) (o : Outcome ℕ) (p : Outcome (Truth × ℕ)) → Together t o p → (n : ℕ) → answer_of p n ≡ paired t (answer_of o n)
 unfolding answer_of then map_ok
 answers_together t o p (refused why) n = refl
-answers_together t o p (judged v ns) n = by (leb (length (number_bytes ns)) n)
+answers_together t o p (answered v ns) n = by (leb (length (number_bytes ns)) n)
   where
     by : (room : Bool) → unless {A = Truth × ℕ} room NoRoom (Ok (v, length ns)) ≡ paired (Ok v) (unless room NoRoom (Ok (length ns)))
     by true = refl
@@ -69,7 +69,7 @@ answers_together t o p (judged v ns) n = by (leb (length (number_bytes ns)) n)
 lists_together : (t : Result Truth Refusal) (o : Outcome ℕ) (p : Outcome (Truth × ℕ)) → Together t o p → (buffer : List ℕ) → written_of p buffer ≡ written_of o buffer
 unfolding written_of
 lists_together t o p (refused why) buffer = refl
-lists_together t o p (judged v ns) buffer = refl
+lists_together t o p (answered v ns) buffer = refl
 
 -- for every byte string, value and buffer
 pub said_together : (tree value buffer : List ℕ) → SaidTogether tree value buffer
@@ -81,7 +81,7 @@ said_together tree value buffer = record {
 short_together : (t : Result Truth Refusal) (o : Outcome ℕ) (p : Outcome (Truth × ℕ)) → Together t o p → (n : ℕ) → (answer_of p n ≡ Err NoRoom) ↔ (answer_of o n ≡ Err NoRoom)
 unfolding answer_of then
 short_together t o p (refused why) n = (λ h. let same : why ≡ NoRoom = cc in ap Err same, λ h. let same : why ≡ NoRoom = cc in ap Err same)
-short_together t o p (judged v ns) n = by (leb (length (number_bytes ns)) n)
+short_together t o p (answered v ns) n = by (leb (length (number_bytes ns)) n)
   where
     by : (room : Bool) → (unless {A = Truth × ℕ} room NoRoom (Ok (v, length ns)) ≡ Err NoRoom) ↔ (unless room NoRoom (Ok (length ns)) ≡ Err NoRoom)
     by true = (λ h. absurd (err≢ok (sym h)), λ h. absurd (err≢ok (sym h)))

@@ -2,7 +2,7 @@
 use Rattle.std.specs.Prelude.{◌≡◌, refl, List, Bool, true, false, ◌⊎◌, ℕ, ◌≤◌, leb, length, get_or, set, Result, Ok, Err}
 use Rattle.std.proofs.Common.{sym, ap, ◌∙◌, inl, inr, arith}
 use Rattle.refusal.specs.declared.Refusal.{Refusal}
-use Rattle.refusal.specs.Result.{unless, then, err≢ok, unless_ok}
+use Rattle.refusal.specs.Result.{unless, then, map_ok, err≢ok, unless_ok}
 use Rattle.refusal.specs.Refusals.{number_of}
 use Rattle.refusal.specs.declared.Refusal.TheVariants.{TooLong, NotUtf8, NoRoom, NotATree, WrongAnswers}
 use Rattle.utf8.specs.Utf8.{is_utf8, decode}
@@ -29,7 +29,8 @@ use Rattle.semantics.specs.Violations.{violations, number_bytes}
 use Rattle.semantics.proofs.Sentences.{answered_unknown}
 use Rattle.semantics.proofs.Unknown as unknown
 use Rattle.semantics.specs.Unknown.{UnregisteredAmong}
-use Rattle.semantics.specs.Answers.{presence_by, eval_answer, with_numbers, verdicts_outcome, verdicts_answer}
+use Rattle.semantics.specs.Answers.{presence_by, eval_answer, with_numbers, verdicts_outcome, verdicts_answer, admitted_presence, eval_and_truth_answer}
+use Rattle.verdicts.proofs.Laws.{map_tested}
 
 -- the sizes of a tree, and of its print
 pub record Small (b : List ℕ) (e : Expr) : Type 0 where
@@ -143,3 +144,15 @@ truth-filled tree value i n v k h =
     let t = verdicts_are tree value n v k h in
     let f = (grammar.tree_is_bytes tree i t.expr t.is_of).1 in
     sym (ap is_neutral t.is_truth) ∙ unknown.truth-filled value 0 t.expr f.wide
+
+-- `eval_and_truth` is `eval_admitted` on the tree's expression, with the format truth beside the presence
+pub both_admitted : (tree answers value : List ℕ)
+    → eval_and_truth_answer tree answers value ≡ then (tree_of tree) (λ e. map_ok (λ p. (p, truth value e)) (admitted_presence answers value e))
+unfolding eval_and_truth_answer then
+both_admitted tree answers value = by (tree_of tree)
+  where
+    by : (r : Result Expr Refusal)
+        → then {B = Truth × Truth} r (λ e. unless (answers_fit e answers) WrongAnswers (admitted value_limit value (map_ok (λ p. (p, truth value e)) (presence_by answers e))))
+        ≡ then r (λ e. map_ok (λ p. (p, truth value e)) (admitted_presence answers value e))
+    by (Ok e) = sym (map_tested (λ p. (p, truth value e)) (answers_fit e answers) value (presence_by answers e))
+    by (Err why) = refl

@@ -145,8 +145,8 @@ fn truth_of(tree: Tree, value: &[u8]) -> Truth
     judge_tree(tree, value, &mut truths, &mut list).truth
 }
 
-// The format truth of a tree and how many violations it has; their numbers then begin the list. They are listed in a scratch, since more may
-// be listed for a time than stands there in the end.
+// The format truth of a tree and how many violations it has, whose numbers then begin the list; 14 where they do not fit. They are listed in a
+// scratch first, since more may be listed for a time than stands there in the end.
 fn judge_into(
     tree: Tree,
     value: &[u8],
@@ -166,8 +166,8 @@ fn judge_into(
     Ok((judged.truth, judged.at / 2))
 }
 
-// The format truth of a tree that was tested and how many violations it has, for any bytes as a value; their numbers then begin the list: 14 is
-// its one refusal. The scratch is small for few citations.
+// The format truth of a tree that was tested, for any bytes as a value, and how many violations it has, whose numbers then begin the list; 14
+// where they do not fit, and no other refusal. The scratch is small for few citations.
 pub fn verdicts_of(tree: Tree, value: &[u8], list: &mut [u8]) -> Result<(Truth, usize), Refusal>
     ensures result_value { result ≡ answer_of (verdicts_outcome value.now (tree_at tree.entry.bytes.now 0)) (length list.old) }
     ensures list_after { list.new ≡ written_of (verdicts_outcome value.now (tree_at tree.entry.bytes.now 0)) list.old }
@@ -182,7 +182,8 @@ pub fn verdicts_of(tree: Tree, value: &[u8], list: &mut [u8]) -> Result<(Truth, 
     judge_into(tree, value, &mut truths, &mut scratch, list)
 }
 
-// The format truth of a tree for a value and how many violations it has; their numbers then begin the list: 15, the value's 10 and 11, 14.
+// The format truth of a tree for a value and how many violations it has, whose numbers then begin the list: 15, the value's 10 and 11, 14 where they
+// do not fit.
 pub fn verdicts(tree: &[u8], value: &[u8], list: &mut [u8]) -> Result<(Truth, usize), Refusal>
     ensures result_value { result ≡ answer_of (verdicts_answer tree.now value.now) (length list.old) }
     ensures list_after { list.new ≡ written_of (verdicts_answer tree.now value.now) list.old }
@@ -192,7 +193,7 @@ pub fn verdicts(tree: &[u8], value: &[u8], list: &mut [u8]) -> Result<(Truth, us
     verdicts_of(tree, value, list)
 }
 
-// The presence of a tree that was tested, after tests of the answers and the value: 16, the value's 10 and 11, then 7 and 8 as met.
+// The presence of a tree that was tested; it tests the answers and the value first: 16, the value's 10 and 11, then 7 and 8 as met.
 pub fn eval_admitted(tree: Tree, answers: &[u8], value: &[u8]) -> Result<Truth, Refusal>
     ensures { result ≡ admitted_presence answers.now value.now (tree_at tree.entry.bytes.now 0) }
 {
