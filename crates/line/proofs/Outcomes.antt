@@ -33,7 +33,7 @@ use Rattle.fields.specs.Appended.{Appended}
 use Rattle.fields.proofs.Appends.{same, whole}
 use Rattle.tree.proofs.Walks.{root}
 use Rattle.presence.proofs.Answers.{fit_count}
-use Rattle.verdicts.proofs.Laws.{both_unfit}
+use Rattle.verdicts.proofs.Laws.{presence_unfit, both_refused}
 use Rattle.line.specs.Sizes.{longest_rows, longest_list, longest_named}
 use Rattle.line.specs.Lines.{answer_bytes, figures, named, line, alone_lines, tree_lines, judged_lines, stated_lines, shown, lines, report_answer}
 use Rattle.line.specs.Parts.{numbers_from, AllBelow}
@@ -139,7 +139,8 @@ module _ (k : StatusKind) (b codes value : List ℕ) where
 pub too_many : (b answers value : List ℕ) → is_tree b ≡ true → citation_limit < length answers → eval_and_truth_answer b (answer_bytes answers) value ≡ Err WrongAnswers
 too_many b answers value h l =
     let r = root b h in
-    sym (both_unfit b (answer_bytes answers) value h (sym (fit_count b (answer_bytes answers) h (λ q. omega (arith, q, l, answers_length answers, r.counts, r.fits.few)))))
+    let unfit = sym (fit_count b (answer_bytes answers) h (λ q. omega (arith, q, l, answers_length answers, r.counts, r.fits.few))) in
+    sym (both_refused b (answer_bytes answers) value h (Err WrongAnswers) (presence_unfit (answer_bytes answers) value (tree_at b 0) unfit) WrongAnswers refl)
 
 module _ (s a v old new : List ℕ) (o : Result StatusSaid Refusal) (room : tree_limit ≤ length old) (f : o ≡ answer_of (status_answer s) (length old)) (g : new ≡ written_of (status_answer s) old) where
   -- the answer and the lines, by what the status reads as

@@ -404,11 +404,6 @@ module _ (b answers value : List ℕ) where
   both-no-tree h = rw (no-tree b h)
 
   module _ (tree : is_tree b ≡ true) where
-    -- 16
-    pub both_unfit : answers_fit (tree_at b 0) answers ≡ false → Err WrongAnswers ≡ eval_and_truth_answer b answers value
-    unfolding eval_and_truth_answer then
-    both_unfit k = rw ((root b tree).is, k)
-
     module _ (o : Result Truth Refusal) (h : o ≡ admitted_presence answers value (tree_at b 0)) where
       both_is : (x : Result Truth Refusal) → o ≡ x → map_ok (λ p. (p, truth value (tree_at b 0))) x ≡ eval_and_truth_answer b answers value
       unfolding eval_and_truth_answer then
