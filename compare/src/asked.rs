@@ -1,10 +1,11 @@
 //! Who is asked: the original, unless a rule takes the request out of the comparison by a test on its input; then the model.
 
+use crate::groups::{group_leads, was_merged};
 use crate::model::reading::{Token, after_word, tokens};
 use crate::model::tree::Node;
 use crate::model::{self, is_900, is_boundary, is_other_form};
 use crate::oracle::refusal::NO_ROOM;
-use crate::oracle::{self, Answer, Origin, value};
+use crate::oracle::{self, Answer, Origin, text, value};
 use crate::request::{self, BAD_REQUEST, Function};
 
 /// Why requests are taken out, in the words of the summary.
@@ -35,9 +36,9 @@ pub struct Asked {
 
 /// What the model answers in the original's place; the first rule that covers a request counts. The original asks less of UB1,
 /// UB2 and UB3 on a value that is not in full form, which may raise a truth and shorten a list; it has 900 among the Format
-/// numbers, which may make a True Unknown; and in a choice below the root that is not False it lists what the other branches
-/// violate.
-const RULES: [Rule; 10] = [
+/// numbers, which may make a True Unknown; in a choice below the root that is not False it lists what the other branches
+/// violate; and it merges a group into the chain that it leads, if the operator is the same.
+const RULES: [Rule; 11] = [
     Rule { reason: "UB1 to UB3 on a value not in full form", covers: boundary_alone, still: Some(was_held) },
     Rule {
         reason: "verdicts where UB1 to UB3 meet a value not in full form, with 900 and a choice below the root",
@@ -75,6 +76,11 @@ const RULES: [Rule; 10] = [
         still: Some(|model, original| both(model, original, was_unknown, same_list)),
     },
     Rule { reason: "the kind of a number equal to 900", covers: kind_of_900, still: Some(was_format) },
+    Rule {
+        reason: "texts with a group in front of its own operator",
+        covers: led_by_group,
+        still: Some(was_merged),
+    },
     Rule {
         reason: "all else that cites 900",
         covers: else_with_900,
@@ -123,10 +129,27 @@ fn verdicts_with_900(function: Function, fields: &[&[u8]]) -> bool {
     function == Function::Verdicts && tree_cites_900(fields[0])
 }
 
-fn else_with_900(function: Function, fields: &[&[u8]]) -> bool {
+/// What is read of a text by a function that reads one.
+type Read = fn(&str) -> String;
+
+fn read_by(function: Function) -> Option<Read> {
     match function {
-        Function::Expr => text_cites_900(fields[0], str::to_owned),
-        Function::Status => text_cites_900(fields[0], |text| after_word(text).1),
+        Function::Expr => Some(str::to_owned),
+        Function::Status => Some(|text| after_word(text).1),
+        _ => None,
+    }
+}
+
+fn led_by_group(function: Function, fields: &[&[u8]]) -> bool {
+    let leads = |read: Read| text(fields[0]).is_ok_and(|text| group_leads(&read(text)));
+    read_by(function).is_some_and(leads)
+}
+
+fn else_with_900(function: Function, fields: &[&[u8]]) -> bool {
+    if let Some(read) = read_by(function) {
+        return text_cites_900(fields[0], read);
+    }
+    match function {
         Function::Tree | Function::Print | Function::Cited | Function::Eval | Function::Pakete => {
             tree_cites_900(fields[0])
         }
@@ -141,7 +164,7 @@ fn may_cite_900(bytes: &[u8]) -> bool {
 }
 
 /// Whether a text cites one in front of the first place that is refused.
-fn text_cites_900(text: &[u8], read: fn(&str) -> String) -> bool {
+fn text_cites_900(text: &[u8], read: Read) -> bool {
     let cites = |text: &str| {
         tokens(&read(text))
             .0
@@ -346,7 +369,7 @@ mod tests {
 
     #[test]
     fn nine_hundred_is_taken_out() {
-        let [.., with_choice, _, verdicts, kind, other] = RULES.map(|rule| rule.reason);
+        let [.., with_choice, _, verdicts, kind, _, other] = RULES.map(|rule| rule.reason);
         for spelt in ["393030", "30393030", "2b393030"] {
             assert_eq!(said(ASKED, &format!("kind {spelt}")), (Ok(Origin::Model(kind)), "6".to_owned()));
         }
@@ -534,6 +557,83 @@ mod tests {
         ];
         say(&on_verdicts(), false, &wrong);
         say(&on_verdicts(), true, &[(Err(11), Err(11))]);
+    }
+
+    const LED: Reason = "texts with a group in front of its own operator";
+
+    /// The tree of the text, or 14 where it has more bytes than the buffer.
+    fn due(words: &str, text: &str, room: usize) -> Answer {
+        let bytes = tree(text);
+        if bytes.len() > room { Err(NO_ROOM) } else { Ok((format!("{words} {}", bytes.len()), bytes)) }
+    }
+
+    #[test]
+    fn texts_that_a_group_leads_are_taken_out() {
+        for text in [
+            "([1] ⊻ [2]) ⊻ [3]",
+            "(([1]∧[2]))∧[3]",
+            "[0900] ∧ (([1] ∨ [2]) ∨ [3])",
+            "([1 x] [900] ∨ [2]) ∨ ([3] ∨ [4])",
+            "(([1] ∧ [2] ∨ [3]) ∨ [4]) ∨ [5]",
+        ] {
+            for room in 0..=tree(text).len() + 3 {
+                let lent = vec![9; room];
+                let said = ASKED.ask(Function::Expr, &[text.as_bytes(), &lent]);
+                assert_eq!(said, Ok((due("ok", text, room), Origin::Model(LED))), "{text}, {room}");
+                let status = format!(" K\t{}", text.replace(' ', "\u{3000} \n"));
+                let said = ASKED.ask(Function::Status, &[status.as_bytes(), &lent]);
+                assert_eq!(said, Ok((due("ok 6", text, room), Origin::Model(LED))), "{text}, {room}");
+            }
+        }
+    }
+
+    #[test]
+    fn refused_texts_that_a_group_leads() {
+        let led = "([1] ∨ [2]) ∨ [3]";
+        let most = "[1]".repeat(253);
+        let deep = "(".repeat(256);
+        for (text, why) in [
+            (format!("{led} ∨"), 4),
+            (format!("({led}"), 5),
+            (format!("{led} [900])"), 5),
+            (format!("{led}{most}[4]"), 12),
+            (format!("{led}{deep}("), 13),
+        ] {
+            let said = ASKED.ask(Function::Expr, &[text.as_bytes(), b""]);
+            assert_eq!(said, Ok((Err(why), Origin::Model(LED))), "{text}");
+            let said = ASKED.ask(Function::Status, &[format!("Muss {text}").as_bytes(), b""]);
+            assert_eq!(said, Ok((Err(why), Origin::Model(LED))), "{text}");
+        }
+        let said = ASKED.ask(Function::Status, &[format!("muss {led}").as_bytes(), b""]);
+        assert_eq!(said, Ok((Err(9), Origin::Model(LED))));
+        assert_eq!(
+            ASKED.ask(Function::Expr, &[format!("{led}{most}").as_bytes(), b""]),
+            Ok((Err(NO_ROOM), Origin::Model(LED)))
+        );
+    }
+
+    #[test]
+    fn other_texts_with_groups_are_not() {
+        let led = "([1] ∨ [2]) ∨ [3]";
+        for (text, why, whose) in [
+            (format!("{led}+"), 1, Origin::Rust),
+            (format!("{led}["), 2, Origin::Rust),
+            (format!("{led}[ ]"), 3, Origin::Rust),
+            (format!("{led}{}", " ".repeat(4_400)), 10, Origin::Paper),
+            (format!("[900] ({led})["), 2, Origin::Model("all else that cites 900")),
+        ] {
+            let said = ASKED.ask(Function::Expr, &[text.as_bytes(), b""]);
+            assert_eq!(said, Ok((Err(why), whose)), "{text}");
+        }
+        let torn = [led.as_bytes(), b"\xff"].concat();
+        assert_eq!(ASKED.ask(Function::Expr, &[&torn, b""]), Ok((Err(11), Origin::Paper)));
+        for text in ["([1] ∨ [2])", "[1] ∨ ([2] ∨ [3])", "([1] ∨ [2]) ∧ [3]", "([1] [2]) [3] ∨ [4]"]
+        {
+            let said = ASKED.ask(Function::Expr, &[text.as_bytes(), &[9; 99]]);
+            assert_eq!(said, Ok((due("ok", text, 99), Origin::Rust)), "{text}");
+        }
+        let said = ASKED.ask(Function::Status, &[led.as_bytes(), b""]);
+        assert_eq!(said, Ok((Err(9), Origin::Rust)));
     }
 
     #[test]

@@ -17,6 +17,7 @@ pub mod bench;
 pub mod calls;
 pub mod cases;
 pub mod driver;
+pub mod groups;
 pub mod list;
 pub mod listed;
 pub mod model;

@@ -211,9 +211,13 @@ fn readings(all: &mut Examples) {
     say(all, Function::Expr, &[b"[1]", &[7; 22]], &format!("refused 14 {}", "07".repeat(22)));
     say(all, Function::Expr, &[b"[1]", &[7; 23]], &format!("ok 23 {}", hex(&one)));
     say(all, Function::Expr, &[b"[1]", &[7; 25]], &format!("ok 23 {}0707", hex(&one)));
+    let pair = tree(&[(4, 2, 3), (0, 0, 1), (0, 1, 1)], &["1", "2"]);
     let accepted = [
         ("[1] ∧ [2] ∨ [3]".to_owned(), mixed()),
-        ("([1] ⊻ [2]) ⊻ [3]".to_owned(), xor_of_three()),
+        ("([1] ⊻ [2]) ⊻ [3]".to_owned(), xor_of_xor()),
+        ("[1] ⊻ [2] ⊻ [3]".to_owned(), xor_of_three()),
+        ("(([1]))".to_owned(), one),
+        ("([1] ⊻ [2])".to_owned(), pair),
         ("[1 [2]".to_owned(), tree(&[(0, 0, 1)], &["1 [2"])),
         ("[1]".repeat(256), ones(256)),
     ];
@@ -233,6 +237,11 @@ fn xor_of_three() -> Vec<u8> {
     tree(&[(4, 3, 4), (0, 0, 1), (0, 1, 1), (0, 2, 1)], &["1", "2", "3"])
 }
 
+/// A Xor of a Xor and 3.
+fn xor_of_xor() -> Vec<u8> {
+    tree(&group_first(4, 4), &["1", "2", "3"])
+}
+
 /// The tree of the program's example.
 fn of_the_program() -> Vec<u8> {
     let rows = [(2, 2, 7), (1, 2, 5), (3, 2, 3), (0, 0, 1), (0, 1, 1), (0, 2, 1), (0, 3, 1)];
@@ -246,17 +255,26 @@ fn statuses(all: &mut Examples) {
     for text in ["muss [1]", "X[1]", ""] {
         say(all, Function::Status, &[text.as_bytes(), b"\x01"], "refused 9 01");
     }
-    let due = of_the_program();
-    let text = "Muss ([902] ∨ [903]) [1] ∧ [914]".as_bytes();
-    let answer = format!("ok 0 {} {}", due.len(), hex(&due));
-    say(all, Function::Status, &[text, &vec![0; due.len()]], &answer);
+    for (code, text, due) in [
+        (0, "Muss ([902] ∨ [903]) [1] ∧ [914]", of_the_program()),
+        (3, "X ([1] ⊻ [2]) ⊻ [3]", xor_of_xor()),
+        (3, "X [1] ⊻ [2] ⊻ [3]", xor_of_three()),
+    ] {
+        let answer = format!("ok {code} {} {}", due.len(), hex(&due));
+        say(all, Function::Status, &[text.as_bytes(), &vec![0; due.len()]], &answer);
+    }
 }
 
 fn judgements(all: &mut Examples) {
-    let print = "([902] ∨ [903]) [1] ∧ [914]".as_bytes();
     let program = of_the_program();
-    let answer = format!("ok {} {}", print.len(), hex(print));
-    say(all, Function::Print, &[&program, &vec![0; print.len()]], &answer);
+    for (tree, print) in [
+        (&program, "([902] ∨ [903]) [1] ∧ [914]"),
+        (&xor_of_xor(), "([1] ⊻ [2]) ⊻ [3]"),
+        (&xor_of_three(), "[1] ⊻ [2] ⊻ [3]"),
+    ] {
+        let answer = format!("ok {} {}", print.len(), hex(print.as_bytes()));
+        say(all, Function::Print, &[tree, &vec![0; print.len()]], &answer);
+    }
     let nested = tree(&[(1, 2, 5), (1, 2, 3), (0, 0, 1), (0, 1, 1), (0, 2, 1)], &["1", "2", "3"]);
     let answer = format!("ok 11 {}", hex(b"[1] [2] [3]"));
     say(all, Function::Print, &[&nested, &[0; 11]], &answer);
@@ -426,8 +444,10 @@ fn nine_hundred(all: &mut Examples) {
 fn presences(all: &mut Examples, program: &[u8]) {
     let or = |texts: [&str; 2]| tree(&[(3, 2, 3), (0, 0, 1), (0, 1, 1)], &texts);
     let one = tree(&[(0, 0, 1)], &["1"]);
-    let due: [(&[u8], &[u8], &str); 8] = [
+    let due: [(&[u8], &[u8], &str); 10] = [
         (&xor_of_three(), &[2, 2, 1], "0"),
+        (&xor_of_three(), &[2, 2, 2], "0"),
+        (&xor_of_xor(), &[2, 2, 2], "2"),
         (&or(["500", "1"]), &[4, 2], "2"),
         (&or(["1", "1000"]), &[2, 2], "refused 7"),
         (&or(["1", "931"]), &[2, 3], "refused 7"),

@@ -2,9 +2,9 @@
 
 use super::Cases;
 use super::reading::{ask_near, damaged, write_chain};
-use super::trees::{VALUES, answers, ask_verdicts, random_tree};
+use super::trees::{VALUES, answers, ask_verdicts, random_tree, reads_as, trees_of};
 use crate::model;
-use crate::oracle::{judged_alike, read};
+use crate::oracle::judged_alike;
 use crate::original::conditions::Expr;
 use crate::request::Function::{Eval, Expr as ExprText};
 use crate::tree::{encode, flat};
@@ -25,21 +25,18 @@ pub fn many(cases: &mut Cases, rounds: u64) {
             text = damaged(cases, &text);
         }
         ask_near(cases, &text);
-        if let Ok(expr) = read(&text) {
-            let print = expr.to_string();
-            let flat = flat(&expr);
-            assert_eq!(read(&print).as_ref(), Ok(&flat), "printed, then read: {text:?}");
-            cases.ask_lent_near(ExprText, &[print.as_bytes()], encode(&flat).len());
-            judge(cases, &expr);
-        }
+        trees_of(&text).iter().for_each(|expr| judge(cases, expr));
     }
 }
 
-/// Presence and verdicts of a tree, of its flat tree and of a damaged copy.
+/// Reads a tree's print; presence and verdicts of it, of its flat tree and of a damaged copy.
 fn judge(cases: &mut Cases, expr: &Expr) {
     let tree = encode(expr);
     let flat = flat(expr);
     let flat_tree = encode(&flat);
+    let print = expr.to_string();
+    assert!(reads_as(&print, &flat_tree), "printed, then read by the model: {print}");
+    cases.ask_lent_near(ExprText, &[print.as_bytes()], flat_tree.len());
     let cited = expr.cited();
     for _ in 0..2 {
         let answers = answers(cases, &cited);

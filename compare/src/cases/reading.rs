@@ -3,9 +3,10 @@
 use super::limits::limit_texts;
 use super::trees::{Judged, TREE_FUNCTIONS};
 use super::{Cases, strings};
-use crate::oracle::{STATUS_WORDS, read};
+use crate::model::reading::expression;
+use crate::oracle::STATUS_WORDS;
 use crate::request::Function::{Expr, Status};
-use crate::tree;
+use crate::tree::MOST_CITATIONS;
 
 /// A citation of each kind, operators, parentheses, white space, a stray character, torn brackets.
 const TOKENS: [&str; 17] = [
@@ -32,6 +33,7 @@ pub fn reading(cases: &mut Cases) {
         ask_around(cases, &text);
         judged.judge_text(cases, &text);
     }
+    groups(cases, &mut judged);
     random_texts(cases, &mut judged);
     texts_near_the_limits(cases, &mut judged);
 }
@@ -53,7 +55,7 @@ fn ask_around(cases: &mut Cases, text: &str) {
 }
 
 fn result_length(text: &str) -> usize {
-    read(text).map_or(3, |expr| tree::encode(&expr).len())
+    expression(text).map_or(3, |node| node.bytes().len())
 }
 
 fn short_texts(cases: &mut Cases, tokens: &[&str], most: usize, judged: &mut Judged) {
@@ -61,6 +63,53 @@ fn short_texts(cases: &mut Cases, tokens: &[&str], most: usize, judged: &mut Jud
         ask_near(cases, text);
         judged.judge_text(cases, text);
     });
+}
+
+/// Every text of these citations in this order: an operator or none between two, groups wherever one can stand, and at most so
+/// many citations in its first operand.
+pub fn chains(cited: &[&str], most: usize) -> Vec<String> {
+    let mut all = Vec::new();
+    for count in 1..=most {
+        let (first, rest) = cited.split_at(count);
+        let firsts = match first {
+            [one] => vec![format!("[{one}]")],
+            _ => chains(first, count - 1).iter().map(|chain| format!("({chain})")).collect(),
+        };
+        if rest.is_empty() {
+            all.extend(firsts);
+            continue;
+        }
+        let rests = chains(rest, rest.len());
+        for (first, rest) in firsts.iter().flat_map(|first| rests.iter().map(move |rest| (first, rest))) {
+            all.extend([" ", " ∧ ", "∨", " ⊻"].map(|between| format!("{first}{between}{rest}")));
+        }
+    }
+    all
+}
+
+/// Groups of few citations, first, later and both, also with more parentheses than needed; and the most groups that lead.
+fn groups(cases: &mut Cases, judged: &mut Judged) {
+    for cited in [&["1", "902", "3"][..], &["1", "2", "3", "4"], &["500", "0900", "1P0..1", "UB1"]] {
+        for text in chains(cited, cited.len() - 1) {
+            for text in [
+                text.replace('(', "((").replace(')', "))"),
+                text.replace('[', "([").replace(']', "])"),
+                format!("({text})"),
+                text,
+            ] {
+                ask_around(cases, &text);
+                judged.judge_text(cases, &text);
+            }
+        }
+    }
+    for operator in OPERATORS {
+        let more = format!(" {operator} [12345678])");
+        for groups in [1, 2, 100, MOST_CITATIONS - 2, MOST_CITATIONS - 1] {
+            let text = format!("{}[87654321]{}", "(".repeat(groups), more.repeat(groups));
+            ask_around(cases, &text);
+            judged.judge_text(cases, &text);
+        }
+    }
 }
 
 fn status_words(cases: &mut Cases) {
@@ -182,5 +231,16 @@ fn texts_near_the_limits(cases: &mut Cases, judged: &mut Judged) {
         text.push_str("[5]");
         ask_near(cases, &text);
         judged.judge_text(cases, &text);
+    }
+}
+
+#[cfg(test)]
+mod tests {
+    use super::*;
+
+    #[test]
+    fn counts_of_chains() {
+        assert_eq!(chains(&["1", "2"], 1), ["[1] [2]", "[1] ∧ [2]", "[1]∨[2]", "[1] ⊻[2]"]);
+        assert_eq!([chains(&["1"; 3], 2).len(), chains(&["1"; 4], 3).len()], [48, 704]);
     }
 }

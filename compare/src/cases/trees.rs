@@ -3,12 +3,13 @@
 use std::collections::{HashMap, HashSet};
 
 use super::Cases;
-use crate::model;
+use crate::groups::group_leads;
+use crate::model::{self, reading::expression};
 use crate::oracle::{LONGEST_TEXT, LONGEST_VALUE, judged_alike, read};
 use crate::original::conditions::Expr;
 use crate::random::hash;
 use crate::request::Function::{self, *};
-use crate::tree::{NODE_ROW, encode, encode_parts, flat, node, operands};
+use crate::tree::{NODE_ROW, decode, encode, encode_parts, flat, node, operands};
 
 pub const TREE_FUNCTIONS: [Function; 6] = [Tree, Print, Cited, Eval, Pakete, Verdicts];
 
@@ -26,14 +27,10 @@ const CITED: [&str; 22] = [
 pub struct Judged(HashSet<u64>);
 
 impl Judged {
-    /// Judges the tree of a text that is read.
+    /// Judges the trees of a text that is read.
     pub fn judge_text(&mut self, cases: &mut Cases, text: &str) {
-        if text.len() > LONGEST_TEXT {
-            return;
-        }
-        if let Ok(expr) = read(text) {
-            assert_eq!(read(&expr.to_string()), Ok(flat(&expr)), "printed, then read: {text:?}");
-            self.judge(cases, &expr);
+        if text.len() <= LONGEST_TEXT {
+            trees_of(text).iter().for_each(|expr| self.judge(cases, expr));
         }
     }
 
@@ -47,6 +44,7 @@ impl Judged {
         cases.ask_lent_near(Print, &[&bytes], print.len());
         let flat = flat(expr);
         let flat_bytes = encode(&flat);
+        assert!(reads_as(&print, &flat_bytes), "printed, then read by the model: {print}");
         cases.ask_lent_near(Expr, &[print.as_bytes()], flat_bytes.len());
         let answers = answers(cases, &expr.cited());
         let value = *cases.random.pick(&VALUES);
@@ -62,6 +60,26 @@ impl Judged {
             ask_tree(cases, &flat_bytes, &answers, value.as_bytes(), expr.cited().len());
         }
     }
+}
+
+/// The original's tree of a text that is read, whose print the original must read as its flat tree; and the model's, where a group
+/// stands in front of its own operator.
+pub fn trees_of(text: &str) -> Vec<Expr> {
+    let Ok(expr) = read(text) else {
+        return Vec::new();
+    };
+    assert_eq!(read(&expr.to_string()), Ok(flat(&expr)), "printed, then read: {text:?}");
+    let mut trees = vec![expr];
+    if group_leads(text) {
+        let kept = expression(text).expect("reads, as by the original");
+        trees.push(decode(&kept.bytes()).expect("a tree"));
+    }
+    trees
+}
+
+/// Whether the model reads a print as the tree with these bytes.
+pub fn reads_as(print: &str, tree: &[u8]) -> bool {
+    expression(print).is_ok_and(|node| node.bytes() == tree)
 }
 
 /// The requests on a tree that need no other text.
@@ -338,15 +356,15 @@ fn random_trees(cases: &mut Cases) {
     deepest(cases, &mut judged);
 }
 
-/// The deepest trees, to either side.
+/// The deepest trees, to either side, of one operator and of two in turn.
 fn deepest(cases: &mut Cases, judged: &mut Judged) {
-    for depth in [1, 100, 254, 255] {
-        for left in [false, true] {
+    for (depth, left) in [1, 100, 254, 255].into_iter().flat_map(|depth| [(depth, false), (depth, true)]) {
+        for kinds in [[2, 3], [1, 1], [2, 2], [3, 3], [4, 4]] {
             let mut expr = Expr::Cond("1".to_owned());
             for level in 0..depth {
                 let leaf = Expr::Cond("902".to_owned());
                 let pair = if left { vec![expr, leaf] } else { vec![leaf, expr] };
-                expr = node(2 + (level % 2) as u8, pair).expect("an inner node");
+                expr = node(kinds[level % 2], pair).expect("an inner node");
             }
             judged.judge(cases, &expr);
         }
@@ -471,6 +489,38 @@ mod tests {
     fn counts_of_shapes() {
         assert_eq!([1, 2, 3, 4].map(|n| shapes(n).len()), [1, 4, 36, 404]);
         assert!(shapes(4).iter().all(|shape| operands(shape).len() > 1));
+    }
+
+    #[test]
+    fn a_text_has_two_trees_where_a_group_leads() {
+        let prints = |text| trees_of(text).iter().map(Expr::to_string).collect::<Vec<_>>();
+        let (kept, run) = ("([1] ⊻ [2]) ⊻ [3]", "[1] ⊻ [2] ⊻ [3]");
+        assert_eq!(prints("(([1]⊻[2]))⊻[3]"), [run, kept]);
+        assert_eq!(prints("[1]⊻([2]⊻[3])"), ["[1] ⊻ ([2] ⊻ [3])"]);
+        assert_eq!(prints("([1]⊻[2])⊻"), [""; 0]);
+        let [run, kept] = &trees_of(kept)[..] else { panic!("two trees") };
+        assert!(reads_as(&run.to_string(), &encode(run)) && reads_as(&kept.to_string(), &encode(kept)));
+        assert!(!reads_as(&run.to_string(), &encode(kept)) && !reads_as(&kept.to_string(), &encode(run)));
+    }
+
+    /// Every function is asked of both trees, and both are counted.
+    #[test]
+    fn both_trees_are_judged() {
+        let mut asked = Vec::new();
+        let mut take = |function, fields: &[&[u8]]| asked.push((function, fields[0].to_vec()));
+        let mut cases = Cases::new(false, 1, &Function::ALL, &mut take);
+        let text = "([1] ∨ [2]) ∨ [3]";
+        let mut judged = Judged::default();
+        for _ in 0..2 {
+            judged.judge_text(&mut cases, text);
+            assert_eq!(cases.trees, 2);
+        }
+        for expr in trees_of(text) {
+            assert!(asked.contains(&(Function::Expr, expr.to_string().into_bytes())));
+            for function in TREE_FUNCTIONS {
+                assert!(asked.contains(&(function, encode(&expr))), "{function:?} of {expr}");
+            }
+        }
     }
 
     /// Of small trees the model's list differs from the original's in some that are taken out, and in no other.

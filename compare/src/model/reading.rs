@@ -73,19 +73,22 @@ pub fn expression(text: &str) -> Result<Node, u8> {
     if rest.is_empty() { Ok(node) } else { Err(PARENTHESES) }
 }
 
-/// Operand runs with operators between them, from left to right.
+/// Operand runs with operators between them, from left to right. An operator like the one in front of it in the same chain adds
+/// an operand to its node; any other makes a node of its own.
 fn chain(rest: &mut &[Token]) -> Result<Node, u8> {
     let mut left = run(rest)?;
+    let mut before = None;
     while let Some((Token::Operator(sign), after)) = rest.split_first() {
         *rest = after;
         let right = run(rest)?;
         left = match left {
-            Node::Joined(same, mut operands) if same == *sign => {
+            Node::Joined(same, mut operands) if before == Some(*sign) => {
                 operands.push(right);
                 Node::Joined(same, operands)
             }
             other => Node::Joined(*sign, vec![other, right]),
         };
+        before = Some(*sign);
     }
     Ok(left)
 }
@@ -161,15 +164,67 @@ fn print_operand(node: &Node) -> String {
 mod tests {
     use super::*;
 
+    fn cited(text: &str) -> Node {
+        Node::Cited(text.to_owned())
+    }
+
+    fn joined(sign: Sign, operands: &[Node]) -> Node {
+        Node::Joined(sign, operands.to_vec())
+    }
+
+    fn prints_back(text: &str, node: &Node) {
+        assert_eq!(expression(text).as_ref(), Ok(node), "{text}");
+        assert_eq!(expression(&print(node)).as_ref(), Ok(node), "{text}");
+    }
+
     #[test]
     fn one_run_of_an_operator_is_one_node() {
-        let xor = expression("([1] ⊻ [2]) ⊻ [3]").expect("an expression");
-        assert!(matches!(&xor, Node::Joined(Sign::Xor, operands) if operands.len() == 3));
-        assert_eq!(print(&xor), "[1] ⊻ [2] ⊻ [3]");
-        let later = expression("[1] ⊻ ([2] ⊻ [3])").expect("an expression");
-        assert_eq!(print(&later), "[1] ⊻ ([2] ⊻ [3])");
-        let mixed = expression("[1]∧[2]∨[3] [4]").expect("an expression");
+        let [one, two, three, four] = ["1", "2", "3", "4"].map(cited);
+        let xor = joined(Sign::Xor, &[one.clone(), two.clone(), three.clone()]);
+        prints_back("[1] ⊻ [2] ⊻ [3]", &xor);
+        prints_back("([1]) ⊻ ([2] ⊻ [3])", &joined(Sign::Xor, &[one, joined(Sign::Xor, &[two, three])]));
+        let node = |text: &str| expression(text).expect("an expression");
+        let mixed = joined(Sign::Or, &[node("[1] ∧ [2]"), node("[3] [4]")]);
+        prints_back("[1]∧[2]∨[3] [4]", &mixed);
         assert_eq!(print(&mixed), "([1] ∧ [2]) ∨ [3] [4]");
+        prints_back("[1] ∧ [2] ∧ [3] ∨ [4]", &joined(Sign::Or, &[node("[1] ∧ [2] ∧ [3]"), four]));
+    }
+
+    #[test]
+    fn groups_are_operands() {
+        let three = cited("3");
+        let pair = joined(Sign::Xor, &["1", "2"].map(cited));
+        let led = joined(Sign::Xor, &[pair.clone(), three.clone()]);
+        for text in ["([1] ⊻ [2]) ⊻ [3]", "(([1] ⊻ [2])) ⊻ [3]", "(([1] ⊻ [2]) ⊻ ([3]))"] {
+            prints_back(text, &led);
+        }
+        assert_eq!(print(&led), "([1] ⊻ [2]) ⊻ [3]");
+        let grown = joined(Sign::Xor, &[pair.clone(), three.clone(), cited("4")]);
+        prints_back("([1] ⊻ [2]) ⊻ [3] ⊻ [4]", &grown);
+        prints_back("(([1] ⊻ [2]) ⊻ [3]) ⊻ [4]", &joined(Sign::Xor, &[led, cited("4")]));
+        let later = joined(Sign::Xor, &[three, pair.clone()]);
+        prints_back("[3] ⊻ ([1] ⊻ [2])", &later);
+        assert_eq!(print(&later), "[3] ⊻ ([1] ⊻ [2])");
+        prints_back("(([1] ⊻ [2]))", &pair);
+        prints_back("(([1]))", &cited("1"));
+        let side = joined(Sign::Then, &[joined(Sign::Then, &["1", "2"].map(cited)), cited("3")]);
+        assert_eq!(expression("([1] [2]) [3]"), Ok(side.clone()));
+        assert_eq!(print(&side), "[1] [2] [3]");
+    }
+
+    #[test]
+    fn a_group_of_several_operators_is_of_its_last() {
+        let and = joined(Sign::And, &["1", "2"].map(cited));
+        let or = joined(Sign::Or, &[and.clone(), cited("3")]);
+        let led = joined(Sign::Or, &[or.clone(), cited("4")]);
+        prints_back("([1] ∧ [2] ∨ [3]) ∨ [4]", &led);
+        assert_eq!(print(&led), "(([1] ∧ [2]) ∨ [3]) ∨ [4]");
+        prints_back("([1] ∧ [2] ∨ [3]) ∧ [4]", &joined(Sign::And, &[or, cited("4")]));
+        let group = joined(Sign::Or, &["1", "2"].map(cited));
+        let first = joined(Sign::And, &[group.clone(), cited("3")]);
+        prints_back("([1] ∨ [2]) ∧ [3] ∨ [4]", &joined(Sign::Or, &[first, cited("4")]));
+        let run = joined(Sign::Then, &[group, cited("3")]);
+        prints_back("([1] ∨ [2]) [3] ∨ [4]", &joined(Sign::Or, &[run, cited("4")]));
     }
 
     #[test]

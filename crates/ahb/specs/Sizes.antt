@@ -8,7 +8,7 @@ use Rattle.utf8.specs.Limits.{value_limit, admitted}
 use Rattle.citation.specs.declared.Truth.{Truth}
 use Rattle.grammar.specs.Expr.{Expr}
 use Rattle.grammar.specs.Reading.{citation_limit, Fits, reading}
-use Rattle.grammar.proofs.Reading.{reading_given}
+use Rattle.grammar.proofs.Reading.{reading_fits}
 use Rattle.grammar.specs.Status.{Stated, alone, stated, status_reading}
 use Rattle.grammar.proofs.StatusLaws.{status_states}
 use Rattle.grammar.specs.Bytes.{bytes_of, is_tree, tree_at, tree_of}
@@ -51,7 +51,7 @@ pub parse-outcome : (s : List ℕ) → Among (λ w. Short w.answer) (parse_answe
 unfolding parse_answer
 parse-outcome s =
     map-among (λ w. Short w.answer) _ (reading s)
-    (known_among (λ e. Short (length (bytes_of e))) (reading s) (reading_known s) λ e h. fits_short e (reading_given s e h).1)
+    (known_among (λ e. Short (length (bytes_of e))) (reading s) (reading_known s) λ e h. fits_short e (reading_fits s e h))
 
 -- as it is answered
 pub parse-among : (s : List ℕ) (n : ℕ) → Among Short (answer_of (parse_answer s) n)
@@ -64,7 +64,7 @@ status_outcome_lem s = map-among (λ w. ShortStatus w.answer) stated_bytes (stat
   where
     by : (x : Stated) → status_reading s ≡ Ok x → ShortStatus (stated_bytes x).answer
     by (alone k) h = tt
-    by (stated k e) h = let t = status_states s k e h in fits_short e (reading_given _ e t.reads).1
+    by (stated k e) h = let t = status_states s k e h in fits_short e (reading_fits _ e t.reads)
 
 -- as it is answered
 pub status_among : (s : List ℕ) (n : ℕ) → Among ShortStatus (answer_of (status_answer s) n)

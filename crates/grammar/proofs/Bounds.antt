@@ -1,111 +1,76 @@
 -- How long and how deep a print is. Assumes nothing.
-use Rattle.std.specs.Prelude.{◌≡◌, true, ℕ, suc, ◌+◌, ◌*◌, ◌≤◌, length}
+use Rattle.std.specs.Prelude.{◌≡◌, true, ℕ, suc, pred, ◌+◌, ◌*◌, ◌≤◌, length}
 use Rattle.std.proofs.Math.Path.{refl}
-use Rattle.std.proofs.Common.{sym, ap, ◌∙◌, arith, length-append, lt-ltb}
-use mathlib.Core.List.{List, [], ◌∷◌, ◌++◌, append_assoc, append-nil}
+use Rattle.std.proofs.Common.{sym, ap, arith, length-append, lt-ltb}
+use mathlib.Core.List.{List, [], ◌∷◌, ◌++◌, append_assoc}
 use Rattle.utf8.specs.Utf8.{encode_char}
 use Rattle.grammar.specs.Expr.{Op, And, Or, Xor, Expr, Exprs, cite, Then, join, none, more, ◌◂◌, Two, Wide, Wides, citations, citations_of, count, concat}
-use Rattle.grammar.specs.Lex.{Tok, cited, op, opening, closing, symbol, texts}
+use Rattle.grammar.specs.Lex.{Tok, cited, op, opening, closing, symbol}
 use Rattle.grammar.specs.Print.{in_tokens, in_bytes, sign_bytes, bracketed, print, listed, links, operand, printed}
 use Rattle.grammar.specs.Reading.{shallow, Fits, print_limit}
 
-mutual
-  unfolding citations
+-- 2 for operands, if there are any
+spare : Exprs → ℕ
+spare none = 0
+spare (more e es) = 2
 
-  -- every wide expression cites something
-  pub some_count : (e : Expr) → Wide e → 1 ≤ count e
-  some_count (cite t) r = omega arith
-  some_count (Then es) r = some_counts es r.0 r.1
-  some_count (join o es) r = some_counts es r.0 r.1
+spare_two : (e : Expr) (es : Exprs) → Two (e ◂ es) → spare es ≡ 2
+unfolding spare
+spare_two e (more f es) q = refl
+spare_two e none q = elim q [ ]
 
-  some_counts : (es : Exprs) → Two es → Wides es → 1 ≤ length (citations_of es)
-  some_counts (more e es) h r = rw length-append (omega (arith, some_count e r.0))
-  some_counts none h r = elim h [ ]
+-- how many parentheses are opened
+opened : List Tok → ℕ
+opened [] = 0
+opened (cited t ∷ ts) = opened ts
+opened (op o ∷ ts) = opened ts
+opened (opening ∷ ts) = suc (opened ts)
+opened (closing ∷ ts) = opened ts
 
-counts_pos : (e : Expr) (es : Exprs) → Two (e ◂ es) → Wides es → 1 ≤ length (citations_of es)
-unfolding citations
-counts_pos e (more f es) h r = rw length-append (omega (arith, some_count f r.0))
-counts_pos e none h r = elim h [ ]
+-- no more are open at a time than are opened
+opened_shallow : (most n : ℕ) (ts : List Tok) → n + opened ts ≤ most → shallow most n ts ≡ true
+unfolding opened shallow
+opened_shallow most n [] h = refl
+opened_shallow most n (cited t ∷ ts) h = opened_shallow most n ts h
+opened_shallow most n (op o ∷ ts) h = opened_shallow most n ts h
+opened_shallow most n (opening ∷ ts) h = rw (lt-ltb n most (omega arith)) (opened_shallow most (suc n) ts (omega arith))
+opened_shallow most n (closing ∷ ts) h = opened_shallow most (pred n) ts (omega arith)
 
-counts_two : (es : Exprs) → Two es → Wides es → 2 ≤ length (citations_of es)
-unfolding citations
-counts_two (more e es) h r = rw length-append (omega (arith, some_count e r.0, counts_pos e es h r.1))
-counts_two none h r = elim h [ ]
-
-module _ (most : ℕ) where
-  -- a separator leaves the count of open parentheses as it is
-  abbrev Level : List Tok → Type 0
-  Level sep = (n : ℕ) (ts : List Tok) → shallow most n (sep ++ ts) ≡ shallow most n ts
-
-  mutual
-    unfolding print bracketed citations shallow
-
-    -- a printed operand leaves the count of open parentheses as it was, and fewer are open within it than it has citations
-    operand-shallow : (e : Expr) → Wide e → (n : ℕ) → n + count e ≤ most + 1 → (ts : List Tok)
-        → shallow most n (operand in_tokens e ++ ts) ≡ shallow most n ts
-    operand-shallow (cite t) r n h ts = refl
-    operand-shallow (Then es) r n h ts = listed_shallow [] (λ m us. refl) es r.0 r.1 n (omega arith) ts
-    operand-shallow (join o es) r n h ts =
-        rw (append_assoc (listed in_tokens (op o ∷ []) es) (closing ∷ []) ts, lt-ltb n most (omega (arith, counts_two es r.0 r.1)))
-        (listed_shallow (op o ∷ []) (λ m us. refl) es r.0 r.1 (suc n) (omega arith) (closing ∷ ts))
-
-    listed_shallow : (sep : List Tok) → Level sep → (es : Exprs) → Two es → Wides es → (n : ℕ) → n + length (citations_of es) ≤ most + 2 → (ts : List Tok)
-        → shallow most n (listed in_tokens sep es ++ ts) ≡ shallow most n ts
-    listed_shallow sep k (more e es) q r n h ts =
-        let total : length (citations_of (e ◂ es)) ≡ count e + length (citations_of es) = length-append (citations e) (citations_of es) in
-        rw (append_assoc (operand in_tokens e) (links in_tokens sep es) ts)
-        (operand-shallow e r.0 n (omega (arith, counts_pos e es q r.1)) (links in_tokens sep es ++ ts)
-        ∙ links_shallow sep k es r.1 n (omega (arith, some_count e r.0)) ts)
-    listed_shallow sep k none q r n h ts = elim q [ ]
-
-    links_shallow : (sep : List Tok) → Level sep → (es : Exprs) → Wides es → (n : ℕ) → n + length (citations_of es) ≤ most + 1 → (ts : List Tok)
-        → shallow most n (links in_tokens sep es ++ ts) ≡ shallow most n ts
-    links_shallow sep k none r n h ts = refl
-    links_shallow sep k (more e es) r n h ts =
-        let total : length (citations_of (e ◂ es)) ≡ count e + length (citations_of es) = length-append (citations e) (citations_of es) in
-        rw (append_assoc sep (operand in_tokens e ++ links in_tokens sep es) ts, append_assoc (operand in_tokens e) (links in_tokens sep es) ts, k n (operand in_tokens e ++ (links in_tokens sep es ++ ts)))
-        (operand-shallow e r.0 n (omega arith) (links in_tokens sep es ++ ts) ∙ links_shallow sep k es r.1 n (omega arith) ts)
-
-  -- a print is two parentheses less deep, at least, than it has citations
-  pub print_shallow : (e : Expr) → Wide e → count e ≤ most + 2 → shallow most 0 (print in_tokens e) ≡ true
-  unfolding print bracketed citations shallow
-  print_shallow (cite t) r h = refl
-  print_shallow (Then es) r h = rw append-nil at (listed_shallow [] (λ m us. refl) es r.0 r.1 0 (omega arith) [])
-  print_shallow (join o es) r h = rw append-nil at (listed_shallow (op o ∷ []) (λ m us. refl) es r.0 r.1 0 (omega arith) [])
-
-texts_append : (a b : List Tok) → texts (a ++ b) ≡ texts a ++ texts b
-unfolding texts
-texts_append [] b = refl
-texts_append (cited t ∷ a) b = rw (texts_append a b)
-texts_append (op o ∷ a) b = texts_append a b
-texts_append (opening ∷ a) b = texts_append a b
-texts_append (closing ∷ a) b = texts_append a b
-
-texts-bracketed : (e : Expr) (ts : List Tok) → texts (bracketed in_tokens e ts) ≡ texts ts
-unfolding bracketed texts
-texts-bracketed (cite t) ts = refl
-texts-bracketed (Then es) ts = refl
-texts-bracketed (join o es) ts = texts_append ts (closing ∷ []) ∙ append-nil (texts ts)
+opened_append : (a b : List Tok) → opened (a ++ b) ≡ opened a + opened b
+unfolding opened
+opened_append [] b = omega arith
+opened_append (cited t ∷ a) b = opened_append a b
+opened_append (op o ∷ a) b = opened_append a b
+opened_append (opening ∷ a) b = omega (arith, opened_append a b)
+opened_append (closing ∷ a) b = opened_append a b
 
 mutual
-  unfolding print citations texts
+  unfolding print bracketed citations opened spare
 
-  -- the printed tokens cite what the tree cites
-  pub texts_print : (e : Expr) → texts (print in_tokens e) ≡ citations e
-  texts_print (cite t) = refl
-  texts_print (Then es) = texts_listed [] refl es
-  texts_print (join o es) = texts_listed (op o ∷ []) refl es
+  -- a printed operand opens fewer parentheses than it has citations
+  operand_opened : (e : Expr) → Wide e → opened (operand in_tokens e) + 1 ≤ count e
+  operand_opened (cite t) w = omega arith
+  operand_opened (Then es) w = omega (arith, listed_opened [] refl es w.0 w.1)
+  operand_opened (join o es) w =
+      omega (arith, listed_opened (op o ∷ []) refl es w.0 w.1, opened_append (listed in_tokens (op o ∷ []) es) (closing ∷ []))
 
-  texts_listed : (sep : List Tok) → texts sep ≡ [] → (es : Exprs) → texts (listed in_tokens sep es) ≡ citations_of es
-  texts_listed sep k none = refl
-  texts_listed sep k (more e es) =
-      texts_append (operand in_tokens e) (links in_tokens sep es) ∙ rw (texts-bracketed e (print in_tokens e), texts_print e, texts_links sep k es)
+  listed_opened : (sep : List Tok) → opened sep ≡ 0 → (es : Exprs) → Two es → Wides es → opened (listed in_tokens sep es) + 2 ≤ length (citations_of es)
+  listed_opened sep k (more e es) h w =
+      omega (arith, opened_append (operand in_tokens e) (links in_tokens sep es), length-append (citations e) (citations_of es), operand_opened e w.0, links_opened sep k es w.1, spare_two e es h)
+  listed_opened sep k none h w = elim h [ ]
 
-  texts_links : (sep : List Tok) → texts sep ≡ [] → (es : Exprs) → texts (links in_tokens sep es) ≡ citations_of es
-  texts_links sep k none = refl
-  texts_links sep k (more e es) =
-      texts_append sep (operand in_tokens e ++ links in_tokens sep es)
-      ∙ rw k (texts_append (operand in_tokens e) (links in_tokens sep es) ∙ rw (texts-bracketed e (print in_tokens e), texts_print e, texts_links sep k es))
+  links_opened : (sep : List Tok) → opened sep ≡ 0 → (es : Exprs) → Wides es → 2 * opened (links in_tokens sep es) + spare es ≤ 2 * length (citations_of es)
+  links_opened sep k none w = omega arith
+  links_opened sep k (more e es) w =
+      omega (arith, opened_append sep (operand in_tokens e ++ links in_tokens sep es), opened_append (operand in_tokens e) (links in_tokens sep es), length-append (citations e) (citations_of es), operand_opened e w.0, links_opened sep k es w.1)
+
+-- a print is two parentheses less deep, at least, than it has citations
+pub print_shallow : (most : ℕ) (e : Expr) → Wide e → count e ≤ most + 2 → shallow most 0 (print in_tokens e) ≡ true
+unfolding print citations opened
+print_shallow most (cite t) w h = opened_shallow most 0 (cited t ∷ []) (omega arith)
+print_shallow most (Then es) w h = opened_shallow most 0 (listed in_tokens [] es) (omega (arith, listed_opened [] refl es w.0 w.1))
+print_shallow most (join o es) w h =
+    opened_shallow most 0 (listed in_tokens (op o ∷ []) es) (omega (arith, listed_opened (op o ∷ []) refl es w.0 w.1))
 
 -- texts of two lists, one after another
 pub concat_append : (a b : List (List ℕ)) → concat (a ++ b) ≡ concat a ++ concat b
@@ -132,15 +97,6 @@ unfolding bracketed
 bracketed_size (cite t) p = omega arith
 bracketed_size (Then es) p = omega arith
 bracketed_size (join o es) p = omega (arith, length-append p (0x29 ∷ []))
-
-spare : Exprs → ℕ
-spare none = 0
-spare (more e es) = 2
-
-spare_two : (e : Expr) (es : Exprs) → Two (e ◂ es) → spare es ≡ 2
-unfolding spare
-spare_two e (more f es) q = refl
-spare_two e none q = elim q [ ]
 
 cite_room : (t : List ℕ) → length (printed (cite t)) + 7 ≤ room (t ∷ [])
 unfolding room concat print

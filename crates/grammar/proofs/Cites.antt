@@ -1,88 +1,55 @@
 -- A tree cites what its tokens cite, and lexing yields citable texts only. Assumes nothing.
 use Rattle.std.specs.Prelude.{◌≡◌, refl, List, [], ◌∷◌, ◌++◌, Bool, true, false, cond, ℕ, eqb, Result, Ok, Err}
-use Rattle.std.proofs.Common.{sym, ◌∙◌, subst, append_assoc, append-nil}
+use Rattle.std.proofs.Common.{sym, ◌∙◌, subst, append-nil}
 use Rattle.refusal.specs.declared.Refusal.{Refusal}
 use Rattle.refusal.specs.Result.{map_ok}
 use Rattle.refusal.specs.declared.Refusal.TheVariants.{EmptyCondition}
 use Rattle.utf8.specs.Utf8.{encode, Scalar, Scalars}
-use Rattle.grammar.specs.Expr.{Op, Expr, Exprs, cite, Then, join, none, more, ◌◂◌, ◌▸◌, citations, citations_of, citations_append}
+use Rattle.grammar.specs.Expr.{Expr, Exprs, none, ◌◂◌, ◌▸◌, citations, citations_of, citations_append}
 use Rattle.grammar.specs.Lex.{Tok, cited, op, opening, closing, cite_end, blank, Part, bracket, sign, left, right, space, stray, part, also, outer, inner, lex, inside, texts}
 use Rattle.grammar.specs.Citable.{holds, AllCitable}
 use Rattle.grammar.proofs.Citable.{holds_none, citable_encoded}
-use Rattle.grammar.specs.Parse.{same, gather, Side, lead, chain, whole, led, grow, Left, start, after, Opens, top, within, value, read, parse}
-
-gather-cites : (es : Exprs) → citations (gather es) ≡ citations_of es
-unfolding gather citations
-gather-cites none = refl
-gather-cites (more e none) = sym (append-nil (citations e))
-gather-cites (more e (more f es)) = refl
-
-led-cites : (a : Expr) (o : Op) → citations_of (led a o) ≡ citations a
-unfolding led citations
-led-cites (cite t) o = refl
-led-cites (Then es) o = rw append-nil
-led-cites (join p es) o = go (same p o) refl
-  where
-    go : (x : Bool) → same p o ≡ x → citations_of (led (join p es) o) ≡ citations_of es
-    go true h = rw (h, led)
-    go false h = rw (h, led) (append-nil (citations_of es))
+use Rattle.grammar.specs.Parse.{parse}
+use Rattle.grammar.specs.Rules.{Phrase, Operand, Run, Term, Chain, Expression, Derives, citation, grouped, empty, next, single, several, pair, longer, another, lone, chained}
+use Rattle.grammar.proofs.Rules.{parse_exactly}
 
 snoc_cites : (run : Exprs) (e : Expr) → citations_of (run ▸ e) ≡ citations_of run ++ citations e
 unfolding citations
 snoc_cites run e = rw (citations_append run (e ◂ none), append-nil)
 
--- one more operand adds its citations
-pub grow-cites : (a : Side) (o : Op) (b : Expr) → citations (whole (grow a o b)) ≡ citations (whole a) ++ citations b
-unfolding grow whole citations
-grow-cites (lead a) o b = snoc_cites (led a o) b ∙ rw (led-cites a o)
-grow-cites (chain p es) o b = go (same p o) refl
-  where
-    go : (x : Bool) → same p o ≡ x → citations (whole (grow (chain p es) o b)) ≡ citations_of es ++ citations b
-    go true h = rw (h, grow) (snoc_cites es b)
-    go false h = rw (h, grow) (rw append-nil)
+texts_append : (a b : List Tok) → texts (a ++ b) ≡ texts a ++ texts b
+unfolding texts
+texts_append [] b = refl
+texts_append (cited t ∷ a) b = rw (texts_append a b)
+texts_append (op o ∷ a) b = texts_append a b
+texts_append (opening ∷ a) b = texts_append a b
+texts_append (closing ∷ a) b = texts_append a b
 
-left_texts : Left → List (List ℕ)
-left_texts start = []
-left_texts (after s o) = citations (whole s)
+-- the texts that a phrase cites
+abbrev phrase_texts : Phrase → List (List ℕ)
+phrase_texts (Operand e) = citations e
+phrase_texts (Run es) = citations_of es
+phrase_texts (Term e) = citations e
+phrase_texts (Chain o es) = citations_of es
+phrase_texts (Expression e) = citations e
 
-opens_texts : Opens → List (List ℕ)
-opens_texts top = []
-opens_texts (within l run w) = opens_texts w ++ (left_texts l ++ citations_of run)
-
-abbrev Cites : List (List ℕ) → Result Expr Refusal → Type 0
-Cites x (Ok e) = citations e ≡ x
-Cites x (Err k) = Unit
-
-value-cites : (l : Left) (run : Exprs) → citations (whole (value l run)) ≡ left_texts l ++ citations_of run
-unfolding value left_texts whole
-value-cites start run = gather-cites run
-value-cites (after a o) run = grow-cites a o (gather run) ∙ rw (gather-cites run)
-
-snoc_cites' : (run : Exprs) (e : Expr) (x : List (List ℕ)) → citations_of (run ▸ e) ++ x ≡ citations_of run ++ (citations e ++ x)
-snoc_cites' run e x = rw (snoc_cites run e, append_assoc)
-
-read-cites : (ts : List Tok) (l : Left) (run : Exprs) (w : Opens)
-    → Cites (opens_texts w ++ (left_texts l ++ (citations_of run ++ texts ts))) (read ts l run w)
-unfolding read texts left_texts opens_texts citations
-read-cites [] l none w = tt
-read-cites [] l (more e es) top = value-cites l (e ◂ es) ∙ rw append-nil
-read-cites [] l (more e es) (within l' run' w) = tt
-read-cites (cited t ∷ ts) l run w = rw (snoc_cites' run (cite t) (texts ts)) at (read-cites ts l (run ▸ cite t) w)
-read-cites (opening ∷ ts) l run w = simp append_assoc at (read-cites ts start none (within l run w))
-read-cites (op o ∷ ts) l none w = tt
-read-cites (op o ∷ ts) l (more e es) w =
-    simp append_assoc (simp (value-cites l (e ◂ es), append_assoc) at (read-cites ts (after (value l (e ◂ es)) o) none w))
-read-cites (closing ∷ ts) l none w = tt
-read-cites (closing ∷ ts) l (more e es) top = tt
-read-cites (closing ∷ ts) l (more e es) (within l' run' w) =
-    simp append_assoc
-    (simp (snoc_cites' run' (whole (value l (e ◂ es))) (texts ts), value-cites l (e ◂ es), append_assoc)
-    at (read-cites ts l' (run' ▸ whole (value l (e ◂ es))) w))
+derived_cites : {ts : List Tok} {p : Phrase} → Derives ts p → phrase_texts p ≡ texts ts
+unfolding texts citations
+derived_cites (citation t) = refl
+derived_cites (grouped {ts} d) = rw (texts_append ts (closing ∷ []), append-nil) (derived_cites d)
+derived_cites empty = refl
+derived_cites (next {ts} {us} {es} {e} d d') = snoc_cites es e ∙ rw (texts_append ts us, derived_cites d, derived_cites d')
+derived_cites (single {e} d) = sym (append-nil (citations e)) ∙ derived_cites d
+derived_cites (several d h) = derived_cites d
+derived_cites (pair {ts} {us} d o d') = rw (texts_append ts (op o ∷ us), append-nil, derived_cites d, derived_cites d')
+derived_cites (longer {ts} {us} {o} {es} {b} d d') = snoc_cites es b ∙ rw (texts_append ts (op o ∷ us), derived_cites d, derived_cites d')
+derived_cites (another {ts} {us} d o h d') = rw (texts_append ts (op o ∷ us), append-nil, derived_cites d, derived_cites d')
+derived_cites (lone d) = derived_cites d
+derived_cites (chained d) = derived_cites d
 
 -- a tree cites what its tokens cite, in their order
 pub parse-cites : (ts : List Tok) (e : Expr) → parse ts ≡ Ok e → citations e ≡ texts ts
-unfolding parse left_texts opens_texts citations
-parse-cites ts e h = subst (Cites (texts ts)) h (read-cites ts start none top)
+parse-cites ts e h = derived_cites ((parse_exactly ts e).0 h)
 
 abbrev Lexed : Result (List Tok) Refusal → Type 0
 Lexed (Ok ts) = AllCitable (texts ts)

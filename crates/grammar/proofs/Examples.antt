@@ -10,9 +10,10 @@ use Rattle.utf8.specs.Limits.{admitted}
 use Rattle.status.specs.declared.StatusKind.TheVariants.{Muss, X}
 use Rattle.status.specs.Status.{kind_among, kind_of_word}
 use Rattle.grammar.specs.Expr.{And, Or, Xor, Expr, Exprs, cite, Then, join, none, ◌◂◌, ◌⧺◌, citations, concat}
-use Rattle.grammar.specs.Lex.{blank, symbol, part, outer, inner, lex, texts}
+use Rattle.grammar.specs.Lex.{Tok, cited, op, opening, closing, blank, symbol, part, outer, inner, lex, texts}
+use Rattle.grammar.specs.Rules.{Term, Expression, Derives, citation, grouped, empty, next, single, several, pair, longer, another, lone, chained}
 use Rattle.grammar.specs.Citable.{holds, citable}
-use Rattle.grammar.specs.Parse.{same, gather, whole, led, grow, value, read, parse}
+use Rattle.grammar.specs.Parse.{same, gather, whole, grow, value, read, parse}
 use Rattle.grammar.specs.Print.{printed, print, bracketed, sign_bytes}
 use Rattle.grammar.specs.Flat.{flat, operands}
 use Rattle.grammar.specs.Reading.{some_token, few, shallow, tree, expression, reading}
@@ -59,16 +60,36 @@ cases =
     ∷ (bytes "[1] ∨ [2] [3]", Ok (join Or (c "1" ◂ Then (c "2" ◂ c "3" ◂ none) ◂ none)))
     ∷ (bytes "([1] [2]) [3]", Ok (Then (Then (c "1" ◂ c "2" ◂ none) ◂ c "3" ◂ none)))
     ∷ (bytes "(([1]))", Ok (c "1"))
-    ∷ (bytes "([1] ⊻ [2]) ⊻ [3]", Ok (join Xor (c "1" ◂ c "2" ◂ c "3" ◂ none)))
+    ∷ (bytes "[1] ⊻ [2] ⊻ [3]", Ok (join Xor (c "1" ◂ c "2" ◂ c "3" ◂ none)))
+    ∷ (bytes "([1] ⊻ [2]) ⊻ [3]", Ok (join Xor (join Xor (c "1" ◂ c "2" ◂ none) ◂ c "3" ◂ none)))
+    ∷ (bytes "(([1] ⊻ [2])) ⊻ [3] ⊻ [4]", Ok (join Xor (join Xor (c "1" ◂ c "2" ◂ none) ◂ c "3" ◂ c "4" ◂ none)))
+    ∷ (bytes "([1] ⊻ [2])", Ok (join Xor (c "1" ◂ c "2" ◂ none)))
     ∷ (bytes "[1] ⊻ ([2] ⊻ [3])", Ok (join Xor (c "1" ◂ join Xor (c "2" ◂ c "3" ◂ none) ◂ none)))
-    ∷ (bytes "([1] ∧ [2] ∨ [3]) ∨ [4]", Ok (join Or (join And (c "1" ◂ c "2" ◂ none) ◂ c "3" ◂ c "4" ◂ none)))
+    ∷ (bytes "([1] ∧ [2] ∨ [3]) ∨ [4]", Ok (join Or (join Or (join And (c "1" ◂ c "2" ◂ none) ◂ c "3" ◂ none) ◂ c "4" ◂ none)))
     ∷ (bytes "([1] ∨ [2] ∧ [3]) ∨ [4]", Ok (join Or (join And (join Or (c "1" ◂ c "2" ◂ none) ◂ c "3" ◂ none) ◂ c "4" ◂ none)))
     ∷ (bytes "([1] ∨ [2]) [3] ∨ [4]", Ok (join Or (Then (join Or (c "1" ◂ c "2" ◂ none) ◂ c "3" ◂ none) ◂ c "4" ◂ none)))
     ∷ []
 
 cases_hold : readings cases ≡ wanted cases
-unfolding reading admitted is_utf8 decode encode_char lead_of expression then map_ok lex outer inner part is_white symbol blank tree some_token few texts concat shallow parse read value whole gather grow led same ◌⧺◌
+unfolding reading admitted is_utf8 decode encode_char lead_of expression then map_ok lex outer inner part is_white symbol blank tree some_token few texts concat shallow parse read value whole gather grow same ◌⧺◌
 cases_hold = refl
+
+-- a token that cites a quoted text, and the term that it is
+abbrev t : String → Tok
+t s = cited (bytes s)
+
+word : (s : String) → Derives (t s ∷ []) (Term (c s))
+unfolding ◌⧺◌
+word s = single (next empty (citation (bytes s)))
+
+-- what the rules derive from the tokens of `([1] ⊻ [2]) ⊻ [3] [4] ∧ [5] ∧ ([6])`, each rule used
+derived : Derives (opening ∷ t "1" ∷ op Xor ∷ t "2" ∷ closing ∷ op Xor ∷ t "3" ∷ t "4" ∷ op And ∷ t "5" ∷ op And ∷ opening ∷ t "6" ∷ closing ∷ [])
+    (Expression (join And (join Xor (join Xor (c "1" ◂ c "2" ◂ none) ◂ Then (c "3" ◂ c "4" ◂ none) ◂ none) ◂ c "5" ◂ c "6" ◂ none)))
+unfolding ◌⧺◌ same
+derived =
+    let group = grouped (chained (pair (word "1") Xor (word "2"))) in
+    let run = next (next empty (citation (bytes "3"))) (citation (bytes "4")) in
+    chained (longer (another (pair (single (next empty group)) Xor (several run tt)) And refl (word "5")) (single (next empty (grouped (lone (word "6"))))))
 
 abbrev times : ℕ → Exprs → Exprs
 times zero es = es
@@ -89,7 +110,7 @@ limits =
     ∷ []
 
 limits_hold : readings limits ≡ wanted limits
-unfolding reading admitted is_utf8 decode encode_char lead_of expression then map_ok lex outer inner part is_white symbol blank tree some_token few texts concat shallow parse read value whole gather grow led same ◌⧺◌
+unfolding reading admitted is_utf8 decode encode_char lead_of expression then map_ok lex outer inner part is_white symbol blank tree some_token few texts concat shallow parse read value whole gather grow same ◌⧺◌
 limits_hold = refl
 
 -- 2,048 bytes in the citations, and one more
@@ -119,13 +140,14 @@ status_cases =
     ∷ []
 
 statuses_hold : statuses status_cases ≡ statuses_wanted status_cases
-unfolding status_reading of_words kind_of_word kind_among after_word words words_from ended spaced joined admitted is_utf8 decode encode_char lead_of expression then map_ok lex outer inner part is_white symbol blank tree some_token few texts concat shallow parse read value whole gather grow led same ◌⧺◌
+unfolding status_reading of_words kind_of_word kind_among after_word words words_from ended spaced joined admitted is_utf8 decode encode_char lead_of expression then map_ok lex outer inner part is_white symbol blank tree some_token few texts concat shallow parse read value whole gather grow same ◌⧺◌
 statuses_hold = refl
 
 -- expressions and their prints
 abbrev prints : List (Expr × List ℕ)
 prints =
     (Then (Then (c "1" ◂ c "2" ◂ none) ◂ c "3" ◂ none), bytes "[1] [2] [3]")
+    ∷ (join Xor (join Xor (c "1" ◂ c "2" ◂ none) ◂ c "3" ◂ none), bytes "([1] ⊻ [2]) ⊻ [3]")
     ∷ (join Or (join And (c "1" ◂ c "2" ◂ none) ◂ c " 3" ◂ none), bytes "([1] ∧ [2]) ∨ [ 3]")
     ∷ (join Xor (c "1" ◂ Then (c "2" ◂ c "3" ◂ none) ◂ none), bytes "[1] ⊻ [2] [3]")
     ∷ (join And (Then (join Or (c "902" ◂ c "903" ◂ none) ◂ c "1" ◂ none) ◂ c "914" ◂ none), bytes "([902] ∨ [903]) [1] ∧ [914]")
@@ -143,9 +165,9 @@ prints_hold : prints_of prints ≡ prints_wanted prints
 unfolding print bracketed sign_bytes symbol encode_char
 prints_hold = refl
 
--- the flat tree dissolves a Then in a Then, at every depth, and nothing else
-flat_case : flat (Then (Then (Then (c "1" ◂ c "2" ◂ none) ◂ c "3" ◂ none) ◂ join Or (c "4" ◂ join Or (c "5" ◂ c "6" ◂ none) ◂ none) ◂ none))
-    ≡ Then (c "1" ◂ c "2" ◂ c "3" ◂ join Or (c "4" ◂ join Or (c "5" ◂ c "6" ◂ none) ◂ none) ◂ none)
+-- the flat tree dissolves a Then in a Then, at every depth, and nothing else: no group in front or behind
+flat_case : flat (Then (Then (Then (c "1" ◂ c "2" ◂ none) ◂ c "3" ◂ none) ◂ join Or (join Or (c "4" ◂ c "5" ◂ none) ◂ join Or (c "6" ◂ c "7" ◂ none) ◂ none) ◂ none))
+    ≡ Then (c "1" ◂ c "2" ◂ c "3" ◂ join Or (join Or (c "4" ◂ c "5" ◂ none) ◂ join Or (c "6" ◂ c "7" ◂ none) ◂ none) ◂ none)
 unfolding flat operands ◌⧺◌ encode_char
 flat_case = refl
 

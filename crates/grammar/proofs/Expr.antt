@@ -1,6 +1,6 @@
 -- Condition expressions and what they cite. Assumes nothing.
 use Rattle.std.specs.Prelude.{◌≡◌, refl}
-use Rattle.grammar.specs.Expr.{Expr, Exprs, none, more, ◌⧺◌, ◌▸◌, Some, Two, Wides}
+use Rattle.grammar.specs.Expr.{Expr, Exprs, none, more, ◌◂◌, ◌⧺◌, ◌▸◌, Some, Two, Wides}
 
 -- none after operands
 pub append_none : (es : Exprs) → es ⧺ none ≡ es
@@ -25,6 +25,16 @@ pub some_more : (es : Exprs) (e : Expr) → Some (es ▸ e)
 unfolding ◌⧺◌
 some_more none e = tt
 some_more (more f es) e = tt
+
+-- two operands are some
+pub two_some : (es : Exprs) → Two es → Some es
+two_some (more e es) h = tt
+two_some none h = elim h [ ]
+
+-- of two operands or more, some follow the first
+pub two_rest : (e : Expr) (es : Exprs) → Two (e ◂ es) → Some es
+two_rest e (more f es) h = tt
+two_rest e none h = elim h [ ]
 
 -- some operands before some
 pub two_append : (a b : Exprs) → Some a → Some b → Two (a ⧺ b)

@@ -10,10 +10,10 @@ pub mod Never
 pub mod Outcome
 pub mod Print
 pub mod PrintRead
-pub mod Readable
 pub mod Reading
 pub mod Round
 pub mod Rows
+pub mod Rules
 pub mod Sentences
 pub mod Shape
 pub mod Sizes

@@ -11,8 +11,7 @@ use Rattle.utf8.proofs.Sound.{utf8_sound}
 use Rattle.utf8.proofs.Limits.{admitted_ok}
 use Rattle.grammar.specs.Expr.{Expr, concat, citations, count}
 use Rattle.grammar.specs.Lex.{Tok, lex, texts}
-use Rattle.grammar.specs.Readable.{Readable}
-use Rattle.grammar.proofs.Readable.{readable_wide, parse_readable}
+use Rattle.grammar.proofs.Rules.{parse_wide}
 use Rattle.grammar.proofs.Cites.{parse-cites, lexed_citable}
 use Rattle.grammar.specs.Reading.{citation_limit, cited_limit, open_limit, some_token, few, shallow, tree, expression, reading, Fits, Gave}
 
@@ -41,14 +40,13 @@ gave cs e h = go (lex cs) refl h
         record { toks = ts; lexed = q; limited = p₂.0; parsed = p₃.1 }
     go (Err n) q k = absurd (err≢ok k)
 
--- what was read is readable, and fits
-pub expression_given : (cs : List ℕ) → Scalars cs → (e : Expr) → expression cs ≡ Ok e → Readable e × Fits e
-expression_given cs s e h =
+-- what was read fits
+pub expression_fits : (cs : List ℕ) → Scalars cs → (e : Expr) → expression cs ≡ Ok e → Fits e
+expression_fits cs s e h =
     let g = gave cs e h in
-    let r = parse_readable g.toks e g.parsed in
     let c = parse-cites g.toks e g.parsed in
     let f = few_says (citations e) (rw c g.limited) in
-    (r, record { wide = readable_wide e r; few = f.0; small = f.1; citable = rw c (lexed_citable cs s g.toks g.lexed) })
+    record { wide = parse_wide g.toks e g.parsed; few = f.0; small = f.1; citable = rw c (lexed_citable cs s g.toks g.lexed) }
 
 -- the characters of an admitted text
 pub reading_says : (s : List ℕ) (e : Expr) → reading s ≡ Ok e → Scalars (decode s) × (expression (decode s) ≡ Ok e)
@@ -57,6 +55,6 @@ reading_says s e h =
     let a = admitted_ok text_limit s (expression (decode s)) e h in
     ((utf8_sound s a.0.1).0, a.1)
 
--- what a text read as is readable, and fits
-pub reading_given : (s : List ℕ) (e : Expr) → reading s ≡ Ok e → Readable e × Fits e
-reading_given s e h = let r = reading_says s e h in expression_given (decode s) r.0 e r.1
+-- what a text reads as fits
+pub reading_fits : (s : List ℕ) (e : Expr) → reading s ≡ Ok e → Fits e
+reading_fits s e h = let r = reading_says s e h in expression_fits (decode s) r.0 e r.1

@@ -5,16 +5,17 @@ use Rattle.refusal.specs.declared.Refusal.TheVariants.{Empty}
 use Rattle.utf8.specs.Utf8.{decode}
 use Rattle.grammar.specs.Expr.{Expr, citations, count, concat}
 use Rattle.grammar.specs.Lex.{lex}
-use Rattle.grammar.specs.Print.{in_tokens, print, printed}
+use Rattle.grammar.specs.Print.{in_tokens, in_bytes, print, printed}
 use Rattle.grammar.specs.Flat.{flat}
-use Rattle.grammar.proofs.Flat.{citations_flat, wide_flat}
-use Rattle.grammar.specs.Readable.{Readable}
+use Rattle.grammar.proofs.Flat.{print_flat}
 use Rattle.grammar.specs.Reading.{shallow, reading, Fits, node_limit, print_limit}
-use Rattle.grammar.proofs.Reading.{reading_given}
+use Rattle.grammar.proofs.Reading.{reading_fits}
 use Rattle.grammar.proofs.LexPrint.{print_lexed}
 use Rattle.grammar.proofs.Bounds as bounds
+use Rattle.grammar.proofs.PrintRead as back
 use Rattle.grammar.proofs.PrintRead.{printed-read, alike}
-use Rattle.grammar.specs.Status.{status_reading}
+use Rattle.status.specs.declared.StatusKind.{StatusKind}
+use Rattle.grammar.specs.Status.{stated, status_reading}
 use Rattle.grammar.proofs.StatusLaws.{status_states}
 use Rattle.grammar.proofs.Never as never
 use Rattle.grammar.specs.Rows.{span}
@@ -22,18 +23,10 @@ use Rattle.grammar.specs.Bytes.{head_size, row_size, cite_size, bytes_of, is_tre
 use Rattle.grammar.specs.Pack.{IsBytes}
 use Rattle.grammar.proofs.Trees as trees
 use Rattle.grammar.proofs.Sizes as sizes
-use Rattle.grammar.specs.Theorems.{WasRead, as_expression, after_status}
-
--- For every expression that fits, read or not.
 
 -- the flat tree fits
 pub flat_fits : (e : Expr) → Fits e → Fits (flat e)
-flat_fits e f = record {
-  wide = wide_flat e f.wide;
-  few = rw (citations_flat e) f.few;
-  small = rw (citations_flat e) f.small;
-  citable = rw (citations_flat e) f.citable;
-}
+flat_fits = back.flat_fits
 
 -- no print is longer than 4,343 bytes
 pub print_short : (e : Expr) → Fits e → length (printed e) ≤ print_limit
@@ -82,33 +75,32 @@ bytes_alike a b fa fb h = let same : Ok a ≡ Ok b = sym (tree_of_bytes a fa) �
 pub tree_of_one : (b : List ℕ) → IsBytes b → is_tree b ≡ true
     → (e : Expr) × Fits e × (bytes_of e ≡ b) × ((f : Expr) → Fits f → bytes_of f ≡ b → f ≡ e)
 tree_of_one b i h =
-    let s = trees.sound b i h in
-    (s.expr, s.fits, s.bytes, λ f k g. bytes_alike f s.expr k s.fits (g ∙ sym s.bytes))
+    let s = trees.tested b i h in
+    (s.expr, s.fits, sym s.is, λ f k g. bytes_alike f s.expr k s.fits (g ∙ s.is))
 
--- what follows a status word is read as an expression is
-pub was_reading : (e : Expr) → WasRead e → (s : List ℕ) × (reading s ≡ Ok e)
-was_reading e (as_expression s f h) = (s, h)
-was_reading e (after_status s k f h) = let w = status_states s k f h in (_, w.reads)
+-- what a text reads as fits, so it has tree bytes
+pub read_fits : (s : List ℕ) (e : Expr) → reading s ≡ Ok e → Fits e
+read_fits = reading_fits
 
--- what was read is readable: two operands or more in inner nodes, the first operand of an operator no node of the same operator
-pub read_readable : (e : Expr) → WasRead e → Readable e
-read_readable e w = let r = was_reading e w in (reading_given r.0 e r.1).0
+-- so does what is read after a status word
+pub status_fits : (s : List ℕ) (k : StatusKind) (e : Expr) → status_reading s ≡ Ok (stated k e) → Fits e
+status_fits s k e h = let w = status_states s k e h in read_fits _ e w.reads
 
--- what was read fits, so it has tree bytes
-pub read_fits : (e : Expr) → WasRead e → Fits e
-read_fits e w = let r = was_reading e w in (reading_given r.0 e r.1).1
+-- the print of a tree reads as its flat tree
+pub read-printed : (e : Expr) → Fits e → reading (printed e) ≡ Ok (flat e)
+read-printed = printed-read
 
--- the print of what was read reads as its flat tree
-pub read-printed : (e : Expr) → WasRead e → reading (printed e) ≡ Ok (flat e)
-read-printed e w = printed-read e (read_readable e w) (read_fits e w)
-
--- prints of what was read are alike exactly when the bytes of the flat trees are
-pub printed_alike : (a b : Expr) → WasRead a → WasRead b → (printed a ≡ printed b) ↔ (bytes_of (flat a) ≡ bytes_of (flat b))
-printed_alike a b v w =
-    let same = alike a b (read_readable a v) (read_fits a v) (read_readable b w) (read_fits b w) in (
+-- prints are alike exactly when the bytes of the flat trees are
+pub printed_alike : (a b : Expr) → Fits a → Fits b → (printed a ≡ printed b) ↔ (bytes_of (flat a) ≡ bytes_of (flat b))
+printed_alike a b fa fb =
+    let same = alike a b fa fb in (
       λ h. ap bytes_of (same.0 h),
-      λ h. same.1 (bytes_alike (flat a) (flat b) (flat_fits a (read_fits a v)) (flat_fits b (read_fits b w)) h),
+      λ h. same.1 (bytes_alike (flat a) (flat b) (flat_fits a fa) (flat_fits b fb) h),
     )
+
+-- flattening again changes nothing
+pub flat_again : (e : Expr) → Fits e → flat (flat e) ≡ flat e
+flat_again e f = (alike (flat e) e (flat_fits e f) f).0 (print_flat in_bytes e f.wide)
 
 -- a status is never turned back with 6
 pub status_never_empty : (s : List ℕ) → status_reading s ≡ Err Empty → ⊥

@@ -1,4 +1,4 @@
--- Bytes are a tree exactly if they are the bytes of an expression that fits. Assumes nothing.
+-- Bytes pass the test for a tree exactly if they are the bytes of an expression that fits. Assumes nothing.
 use Rattle.std.specs.Prelude.{◌≡◌, refl, List, [], ◌∷◌, ◌++◌, true, ◌&&◌, ℕ, ◌+◌, ◌-◌, ◌*◌, ◌≤◌, length, drop, Ok}
 use Rattle.std.proofs.Common.{sym, ap, ◌∙◌, subst, append_assoc, append-nil, arith, length-append, drop-drop, le-leb, eq-eqb}
 use Rattle.std.proofs.Math.Seq.{drop-append_seam}
@@ -16,7 +16,7 @@ use Rattle.grammar.proofs.Steps.{ok_same}
 use Rattle.grammar.specs.Shape.{tiles-cut, shape}
 use Rattle.grammar.proofs.Shape.{span_some, tiles_rows, ok_rows}
 use Rattle.grammar.specs.Pack.{IsBytes, put, got, rows_got, rows_put, rows_length, texts-length, cites-got, cites_put, length-drop}
-use Rattle.grammar.specs.Trees.{Header, Reads, Headed, headed, Tests, Only, Rooted, Sound}
+use Rattle.grammar.specs.Trees.{Header, Reads, Headed, headed, Tests, Only, Rooted, IsTree}
 
 rows_size : (rs : List Row) → length (row_bytes rs) ≡ row_size * length rs
 unfolding row_bytes two_bytes
@@ -206,12 +206,11 @@ unpacks b i h =
       k.valid,
     )
 
--- a tree is the bytes of an expression that fits
-pub sound : (b : List ℕ) → IsBytes b → is_tree b ≡ true → Sound b
-sound b i h =
+-- bytes that pass the test are a tree
+pub tested : (b : List ℕ) → IsBytes b → is_tree b ≡ true → IsTree b
+tested b i h =
     let r = rooted_in b h in
     let u = unpacks b i h in
-    let bytes : bytes_of r.root ≡ b = packs r.root ∙ rw (r.cited, ← r.is) u.0 in
     let c : length (texts_in b) ≡ cites b = texts-length b (cites b) (cites_at b) (texts_at b) in
     let f : Fits r.root = record {
       wide = r.wide;
@@ -219,13 +218,13 @@ sound b i h =
       small = rw r.cited u.1;
       citable = rw r.cited u.2;
     } in
-    record { expr = r.root; fits = f; bytes = bytes; tree = subst (λ x. tree_of x ≡ Ok r.root) bytes (tree_of_bytes r.root f) }
+    record { expr = r.root; fits = f; is = sym (packs r.root ∙ rw (r.cited, ← r.is) u.0) }
 
 -- what bytes are a tree of, they are the bytes of, and it fits
 pub tree_is_bytes : (b : List ℕ) → IsBytes b → (e : Expr) → tree_of b ≡ Ok e → (bytes_of e ≡ b) × Fits e
 unfolding tree_of
 tree_is_bytes b i e h =
     let t = unless_ok (is_tree b) NotATree (Ok (tree_at b 0)) e h in
-    let s = sound b i t.0 in
-    let same : s.expr ≡ e = ok_same s.expr e (sym s.tree ∙ h) in
-    (subst (λ x. bytes_of x ≡ b) same s.bytes, subst Fits same s.fits)
+    let s = tested b i t.0 in
+    let same : s.expr ≡ e = ok_same s.expr e (sym (ap tree_of s.is ∙ tree_of_bytes s.expr s.fits) ∙ h) in
+    (subst (λ x. bytes_of x ≡ b) same (sym s.is), subst Fits same s.fits)

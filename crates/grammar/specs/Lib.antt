@@ -4,9 +4,8 @@ pub mod Citable
 pub mod Parse
 pub mod Print
 pub mod Flat
-pub mod Readable
+pub mod Rules
 pub mod Steps
-pub mod Round
 pub mod LexPrint
 pub mod Reading
 pub mod Rows
@@ -19,5 +18,4 @@ pub mod Status
 pub mod StatusLaws
 pub mod Sentences
 pub mod Quoted
-pub mod Theorems
 pub mod Outcome

@@ -33,15 +33,9 @@ unfoldable pub whole : Side → Expr
 whole (lead e) = e
 whole (chain o es) = join o es
 
--- what a lead gives to the chain of the operator after it: its own operands if it is a node of that operator, else itself
-unfoldable pub led : Expr → Op → Exprs
-led (cite t) o = cite t ◂ none
-led (Then es) o = Then es ◂ none
-led (join p es) o = cond (same p o) es (join p es ◂ none)
-
--- one more operand: a chain grows by its own operator; another operator takes all that stands left as its first operand
+-- one more operand: a chain grows by its own operator; what else stands left, a lead or a chain of another operator, is the first operand of a new one
 unfoldable pub grow : Side → Op → Expr → Side
-grow (lead a) o b = chain o (led a o ▸ b)
+grow (lead a) o b = chain o (a ◂ b ◂ none)
 grow (chain p es) o b = cond (same p o) (chain p (es ▸ b)) (chain o (join p es ◂ b ◂ none))
 
 -- what stands left of the run that is being read, inside the innermost open parentheses: nothing, or a side and its operator

@@ -1,10 +1,10 @@
--- How reading goes on where a run of operands ends, and inside parentheses. The theorems stand in proofs/Steps. Assumes nothing.
-use Rattle.std.specs.Prelude.{◌≡◌, List, [], ◌∷◌, ◌++◌, Result, Ok, Err}
+-- How reading goes on where a run of operands ends. The theorems stand in proofs/Steps. Assumes nothing.
+use Rattle.std.specs.Prelude.{List, [], ◌∷◌, Result, Ok, Err}
 use Rattle.refusal.specs.declared.Refusal.{Refusal}
 use Rattle.refusal.specs.declared.Refusal.TheVariants.{MissingOperand, Parentheses}
-use Rattle.grammar.specs.Expr.{Expr, Exprs, none, ◌▸◌}
+use Rattle.grammar.specs.Expr.{Expr, none, ◌▸◌}
 use Rattle.grammar.specs.Lex.{Tok, cited, op, opening, closing}
-use Rattle.grammar.specs.Parse.{Side, whole, Left, after, Opens, top, within, read}
+use Rattle.grammar.specs.Parse.{Side, whole, after, Opens, top, within, read}
 
 -- what ends a run of juxtaposed operands: an operator, a closing parenthesis, the end
 abbrev pub Ends : List Tok → Type 0
@@ -23,14 +23,3 @@ resume (op o ∷ ts) s w = read ts (after s o) none w
 resume (opening ∷ ts) s w = Err MissingOperand
 resume (closing ∷ ts) s top = Err Parentheses
 resume (closing ∷ ts) s (within l run w) = read ts l (run ▸ whole s) w
-
--- the open parentheses of the first inside those of the second
-unfoldable pub over : Opens → Opens → Opens
-over top w = w
-over (within l run v) w = within l run (over v w)
-
--- tokens that give an expression, up to the place where it ends: its side, after which reading goes on
-pub record Parsed (ts : List Tok) (l : Left) (run : Exprs) (v : Opens) (e : Expr) : Type 0 where
-  pub side : Side
-  pub is : whole side ≡ e
-  pub goes : (us : List Tok) → Ends us → (w : Opens) → read (ts ++ us) l run (over v w) ≡ resume us side w

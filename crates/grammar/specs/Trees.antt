@@ -1,11 +1,11 @@
 -- What bytes have that pass the test for a tree. That they are those of an expression that fits stands in proofs/Trees. Assumes nothing.
-use Rattle.std.specs.Prelude.{◌≡◌, List, true, ◌&&◌, ℕ, ◌+◌, ◌≤◌, eqb, leb, length, drop, Ok}
+use Rattle.std.specs.Prelude.{◌≡◌, List, true, ◌&&◌, ℕ, ◌+◌, ◌≤◌, eqb, leb, length, drop}
 use Rattle.std.proofs.Common.{eqb-true, leb-true}
 use Rattle.laws.specs.Tests.{and_both}
 use Rattle.grammar.specs.Expr.{Expr, Exprs, none, ◌◂◌, Wide, citations}
 use Rattle.grammar.specs.Reading.{citation_limit, cited_limit, Fits}
 use Rattle.grammar.specs.Rows.{Row, rows}
-use Rattle.grammar.specs.Bytes.{head_size, cites_from, texts_from, bytes_of, field, nodes, cites, cites_at, texts_at, rows_in, texts_in, head_ok, tiles, rows_ok, cites_ok, tree_of}
+use Rattle.grammar.specs.Bytes.{head_size, cites_from, texts_from, bytes_of, field, nodes, cites, cites_at, texts_at, rows_in, texts_in, head_ok, tiles, rows_ok, cites_ok}
 
 -- what is read back of a header
 pub record Header (b : List ℕ) (n c t : ℕ) (x : List ℕ) : Type 0 where
@@ -85,9 +85,8 @@ pub record Rooted (texts : List (List ℕ)) (rs : List Row) : Type 0 where
   pub is : rs ≡ rows 0 root
   pub cited : citations root ≡ texts
 
--- the expression that a tree is the bytes of
-pub record Sound (b : List ℕ) : Type 0 where
+-- bytes that are a tree: those of an expression that fits, whoever made them
+pub record IsTree (b : List ℕ) : Type 0 where
   pub expr : Expr
   pub fits : Fits expr
-  pub bytes : bytes_of expr ≡ b
-  pub tree : tree_of b ≡ Ok expr
+  pub is : b ≡ bytes_of expr

@@ -21,8 +21,7 @@ use Rattle.grammar.specs.Expr.{Expr, count}
 use Rattle.grammar.specs.Reading.{citation_limit, Fits}
 use Rattle.grammar.specs.Status.{Stated, alone, stated, words, of_words, status_reading}
 use Rattle.grammar.specs.Bytes.{bytes_of}
-use Rattle.grammar.specs.Theorems.{after_status}
-use Rattle.grammar.proofs.Theorems.{read_fits, tree_of_bytes}
+use Rattle.grammar.proofs.Theorems.{status_fits, tree_of_bytes}
 use Rattle.semantics.specs.Truth.{truth}
 use Rattle.semantics.specs.Presence.{answers_fit}
 use Rattle.semantics.specs.Answers.{presence_by, eval_and_truth_answer}
@@ -80,7 +79,7 @@ unfolding then stated_lines
 cut_stated s a v (Err j) q = refl
 cut_stated s a v (Ok (alone k)) q = refl
 cut_stated s a v (Ok (stated k e)) q =
-    let fit = read_fits e (after_status s k e q) in
+    let fit = status_fits s k e q in
     cut-value k e fit (answer_bytes (take kept_answers a)) v ∙ cut_answers k e fit a v
 
 -- cutting the lines to what decides changes nothing

@@ -20,8 +20,7 @@ use Rattle.grammar.specs.Print.{printed}
 use Rattle.grammar.specs.Reading.{citation_limit, Fits, print_limit}
 use Rattle.grammar.specs.Status.{Stated, alone, stated, status_reading}
 use Rattle.grammar.specs.Bytes.{cites, texts_in, is_tree, tree_at, bytes_of, tree_limit}
-use Rattle.grammar.specs.Theorems.{after_status}
-use Rattle.grammar.proofs.Theorems.{read_fits, print_short, few_bytes, is_tree_lem, tree_of_bytes}
+use Rattle.grammar.proofs.Theorems.{status_fits, print_short, few_bytes, is_tree_lem, tree_of_bytes}
 use Rattle.grammar.specs.Outcome.{Written, Outcome, answer_of, written_of, with_length, display_answer, stated_bytes, status_answer, StatusSaid}
 use Rattle.grammar.proofs.Outcome.{answer_fits, written_fits, answer_short, written_short}
 use Rattle.semantics.specs.Truth.{counts_on, truth}
@@ -165,7 +164,7 @@ module _ (s a v old new : List ℕ) (o : Result StatusSaid Refusal) (room : tree
       let r = settled (status_answer s) (stated_bytes (alone k)) old new o (answer_by (Ok (alone k)) q) (omega arith) f g in
       (r.0, lines_by (Ok (alone k)) q)
   meets (Ok (stated k e)) q =
-      let fit = read_fits e (after_status s k e q) in
+      let fit = status_fits s k e q in
       let r = settled (status_answer s) (stated_bytes (stated k e)) old new o (answer_by (Ok (stated k e)) q) (omega (arith, few_bytes e fit)) f g in
       (r.0, r.1, fit, lines_by (Ok (stated k e)) q)
 

@@ -9,7 +9,7 @@ use Rattle.refusal.specs.declared.Refusal.{Refusal}
 use Rattle.refusal.specs.Result.{map_ok}
 use Rattle.grammar.specs.Expr.{Op, And, Or, Xor, Expr, Exprs, cite, Then, join, none, more, ◌◂◌, ◌⧺◌, ◌▸◌, citations, citations_of, count}
 use Rattle.grammar.specs.Lex.{Tok, cited, op, opening, closing, texts}
-use Rattle.grammar.specs.Parse.{same, gather, Side, lead, chain, whole, led, grow, Left, start, after, Opens, top, within, value, read, parse}
+use Rattle.grammar.specs.Parse.{same, gather, Side, lead, chain, whole, grow, Left, start, after, Opens, top, within, value, read, parse}
 use Rattle.grammar.specs.Rows.{many, node, rows, rows_of, span, spans}
 use Rattle.lexer.specs.Tokens.{sign_token, kind_of, kinds_of}
 use Rattle.parser.specs.Packed.{packed}
@@ -66,23 +66,13 @@ unfolding bare bare_side whole
 bare_whole (lead e) = refl
 bare_whole (chain o es) = refl
 
-bares_if : (b : Bool) (es fs : Exprs) → bares (cond b es fs) ≡ cond b (bares es) (bares fs)
-bares_if true es fs = refl
-bares_if false es fs = refl
-
-bare_led : (e : Expr) (o : Op) → bares (led e o) ≡ led (bare e) o
-unfolding bare led
-bare_led (cite t) o = refl
-bare_led (Then es) o = refl
-bare_led (join p es) o = bares_if (same p o) es (join p es ◂ none)
-
 side_if : (b : Bool) (s t : Side) → bare_side (cond b s t) ≡ cond b (bare_side s) (bare_side t)
 side_if true s t = refl
 side_if false s t = refl
 
 bare_grow : (s : Side) (o : Op) (b : Expr) → bare_side (grow s o b) ≡ grow (bare_side s) o (bare b)
 unfolding bare bare_side grow
-bare_grow (lead a) o b = ap (chain o) (bares_more (led a o) b ∙ ap (λ x. x ▸ bare b) (bare_led a o))
+bare_grow (lead a) o b = refl
 bare_grow (chain p es) o b =
     side_if (same p o) (chain p (es ▸ b)) (chain o (join p es ◂ b ◂ none))
     ∙ ap (λ x. cond (same p o) (chain p x) (chain o (join p (bares es) ◂ bare b ◂ none))) (bares_more es b)

@@ -12,7 +12,6 @@ use Rattle.grammar.specs.Expr.{Expr, none, ◌◂◌}
 use Rattle.grammar.specs.Parse.{parse}
 use Rattle.grammar.specs.Rows.{rows, rows_of, span, spans, rows_span}
 use Rattle.grammar.specs.Reading.{citation_limit}
-use Rattle.grammar.specs.declared.NodeKind.TheVariants.{Citation}
 use Rattle.parser.specs.Packed.{packed}
 use Rattle.parser.specs.Answer.{cites_in, parsed_kinds, rows_over}
 use Rattle.parser.specs.Tokens.{from}
@@ -26,7 +25,7 @@ use Rattle.parser.proofs.Orders.{many_one, rows_one, span_one, packed-length}
 
 -- where reading starts
 abbrev pub origin : Pos
-origin = record { at = 0; rows = 0; cites = 0; kind = Citation; kids = 0 }
+origin = record { at = 0; rows = 0; cites = 0 }
 
 -- what `parse_tokens` says of kinds: its answer, and the rows before and after
 abbrev Says : (s : List TokenKind) → Result ℕ Refusal → (l new : List Row) → Type 0

@@ -6,12 +6,12 @@ use mathlib.Core.List.{List, [], ◌∷◌}
 use Prim.Native.Nat.{ℕ}
 use Rattle.refusal.specs.declared.Refusal.{Refusal}
 use Rattle.refusal.specs.declared.Refusal.TheVariants.{MissingOperand, Parentheses}
-use Rattle.grammar.specs.Expr.{Op, And, Or, Xor, Expr, Exprs, cite, join, none, more, ◌◂◌, ◌⧺◌, ◌▸◌}
+use Rattle.grammar.specs.Expr.{Op, Expr, Exprs, cite, join, none, more, ◌◂◌, ◌⧺◌, ◌▸◌}
 use Rattle.grammar.proofs.Expr.{some_more}
 use Rattle.grammar.specs.Lex.{Tok, cited, op, opening, closing}
-use Rattle.grammar.specs.Parse.{same, gather, lead, chain, whole, led, grow, Left, start, after, Opens, top, within, value, read, parse}
+use Rattle.grammar.specs.Parse.{same, gather, lead, chain, whole, grow, Left, start, after, Opens, top, within, value, read, parse}
 use Rattle.grammar.specs.Steps.{Ends, resume}
-use Rattle.grammar.proofs.Steps.{settled}
+use Rattle.grammar.proofs.Steps.{settled, value_gather, grow_own, grow_other}
 use Rattle.parser.specs.Tokens.{op_ahead, operand_ahead}
 use Rattle.parser.specs.Reading.{Due, Stops, Atom, NoAtom, Run, Jux, NoJux, Waits, Links, Chain, NoChain}
 
@@ -85,11 +85,6 @@ atom_missing ts q = record { goes = missing ts q }
 
 -- juxtapositions
 
-value-gather : (l : Left) (run : Exprs) → value l run ≡ value l (gather run ◂ none)
-unfolding value gather
-value-gather start run = refl
-value-gather (after a o) run = refl
-
 pub run-first : {ts us : List Tok} {e : Expr} → Atom ts us e → Run ts us (none ▸ e)
 unfolding ◌⧺◌
 run-first h = record { some = tt; goes = λ l w. h.goes l none w }
@@ -102,18 +97,12 @@ run_fails {us} {run} h b f = record { goes = λ l w. h.goes l w ∙ f.goes l run
 
 pub run_ends : {ts us : List Tok} {run : Exprs} → Run ts us run → Ends us → Jux ts us (gather run)
 run_ends {us} {run} h q =
-    record { ends = q; goes = λ l w. h.goes l w ∙ settled us q l run h.some w ∙ ap (λ x. resume us x w) (value-gather l run) }
+    record { ends = q; goes = λ l w. h.goes l w ∙ settled us q l run h.some w ∙ ap (λ x. resume us x w) (value_gather l run) }
 
 pub jux_fails : {ts : List Tok} {why : Refusal} → NoAtom ts why → NoJux ts why
 jux_fails {ts} f = record { goes = λ l w. f.goes l none w (none_due ts) }
 
 -- chains
-
-pub same_self : (o : Op) → same o o ≡ true
-unfolding same
-same_self And = refl
-same_self Or = refl
-same_self Xor = refl
 
 pub chain_fails : {ts : List Tok} {why : Refusal} → NoJux ts why → NoChain ts why
 chain_fails f = record { goes = λ w. f.goes start w }
@@ -124,9 +113,9 @@ unfolding value gather whole
 chain_lead {e} h q = record { stops = q; side = lead e; is = refl; goes = λ w. h.goes start w }
 
 -- a lead before an operator
-pub chain_led : {ts us : List Tok} {o : Op} {e : Expr} → Jux ts (op o ∷ us) e → Waits ts us o (led e o)
-unfolding value gather grow resume
-chain_led {e} h = record { side = lead e; grows = λ b. refl; goes = λ w. h.goes start w }
+pub waits_lead : {ts us : List Tok} {o : Op} {e : Expr} → Jux ts (op o ∷ us) e → Waits ts us o (e ◂ none)
+unfolding value gather grow resume ◌⧺◌
+waits_lead {e} h = record { side = lead e; grows = λ b. refl; goes = λ w. h.goes start w }
 
 linked : (ts us vs : List Tok) (o : Op) (es : Exprs) (b : Expr) (h : Waits ts us o es) → Jux us vs b → (w : Opens)
     → read ts start none w ≡ resume vs (chain o (es ▸ b)) w
@@ -141,14 +130,14 @@ pub operand_fails : {ts us : List Tok} {o : Op} {es : Exprs} {why : Refusal} →
 operand_fails {o} h f = record { goes = λ w. h.goes w ∙ f.goes (after h.side o) w }
 
 -- its own operator follows
-pub chain_again : {ts us : List Tok} {o : Op} {es : Exprs} → Links ts (op o ∷ us) o es → Waits ts us o es
-unfolding grow resume
-chain_again {o} {es} h = record { side = chain o es; grows = λ b. rw (same_self o); goes = λ w. h.goes w }
+pub waits_again : {ts us : List Tok} {o : Op} {es : Exprs} → Links ts (op o ∷ us) o es → Waits ts us o es
+unfolding resume
+waits_again {o} {es} h = record { side = chain o es; grows = λ b. grow_own o es b; goes = λ w. h.goes w }
 
 -- another operator follows
-pub chain_other : {ts us : List Tok} {o p : Op} {es : Exprs} → Links ts (op p ∷ us) o es → same o p ≡ false → Waits ts us p (join o es ◂ none)
-unfolding grow resume ◌⧺◌
-chain_other {o} {es} h d = record { side = chain o es; grows = λ b. rw d; goes = λ w. h.goes w }
+pub waits_other : {ts us : List Tok} {o p : Op} {es : Exprs} → Links ts (op p ∷ us) o es → same o p ≡ false → Waits ts us p (join o es ◂ none)
+unfolding resume ◌⧺◌
+waits_other {o} {p} {es} h d = record { side = chain o es; grows = λ b. grow_other o p es b d; goes = λ w. h.goes w }
 
 -- no operator follows
 pub chain_whole : {ts us : List Tok} {o : Op} {es : Exprs} → Links ts us o es → Stops us → Chain ts us (join o es)

@@ -3,7 +3,7 @@ use Rattle.std.specs.Prelude.{List, [], ◌∷◌, ◌++◌, ℕ, suc, ◌+◌}
 use Rattle.grammar.specs.Expr as expr
 use Rattle.grammar.specs.Expr.{Expr, Exprs, cite, join, none, more, count}
 use Rattle.grammar.specs.Rows as grammar
-use Rattle.grammar.specs.Rows.{row, many, spans, children}
+use Rattle.grammar.specs.Rows.{row, many, spans}
 use Rattle.grammar.specs.Kinds.{sign_kind, numbered}
 use Rattle.grammar.specs.declared.NodeKind.{NodeKind}
 use Rattle.grammar.specs.declared.NodeKind.TheVariants.{Citation, Then}
@@ -22,10 +22,6 @@ packed (row k m z ∷ rs) = pack (numbered k) m z ∷ packed rs
 abbrev pub child_count : NodeKind → ℕ → ℕ
 child_count Citation m = 0
 child_count k m = m
-
--- how many operands an expression has
-abbrev pub operands : Expr → ℕ
-operands e = many (children e)
 
 -- an inner node's row
 abbrev pub node_row : NodeKind → Exprs → Row

@@ -2,13 +2,12 @@
 use Rattle.std.specs.Prelude.{◌≡◌, List, ◌++◌, ℕ, ◌+◌, ◌-◌, ◌*◌, ◌≤◌, ◌<◌, length, take, drop, set, Result, Ok, Err}
 use Rattle.refusal.specs.declared.Refusal.{Refusal}
 use Rattle.utf8.specs.Limits.{text_limit}
-use Rattle.grammar.specs.Expr.{Op, Expr, Exprs, none, ◌◂◌, ◌⧺◌, citations_of}
+use Rattle.grammar.specs.Expr.{Op, Expr, Exprs, none, ◌◂◌, citations_of}
 use Rattle.grammar.specs.Rows.{many, rows_of, spans}
 use Rattle.grammar.specs.Reading.{citation_limit}
-use Rattle.grammar.specs.Kinds.{sign_kind, node_kind}
+use Rattle.grammar.specs.Kinds.{sign_kind}
 use Rattle.grammar.specs.declared.NodeKind.{NodeKind}
-use Rattle.grammar.specs.declared.NodeKind.TheVariants.{Citation}
-use Rattle.parser.specs.Packed.{pack, packed, operands, postorders}
+use Rattle.parser.specs.Packed.{pack, packed, postorders}
 use Rattle.parser.specs.Answer.{cites_in}
 use Rattle.parser.specs.Tokens.{from}
 use Rattle.parser.specs.Reading.{Atom, NoAtom, Run, Jux, NoJux, Waits, Links, Chain, NoChain}
@@ -36,11 +35,6 @@ pub record Within (s : List TokenKind) (p : Pos) (at rows cites kids : ℕ) : Ty
 pub record Tree (s : List TokenKind) (p : Pos) (work : List Row) (q : Pos) (e : Expr) : Type 0 where
   pub held : Held p.rows p.cites work q.rows q.cites (e ◂ none)
   pub within : Within s p q.at q.rows q.cites 1
-  pub kinded : q.kind ≡ node_kind e
-  pub kidded : q.kids ≡ operands e
-  pub room : q.rows + q.kids + 2 * p.cites ≤ p.rows + 1 + 2 * q.cites
-  pub few : q.kids + p.cites ≤ q.cites
-  pub wide : ¬ (q.kind ≡ Citation) → 2 ≤ q.kids
 
 -- where reading may start
 pub record Ready (s : List TokenKind) (room : ℕ) (p : Pos) : Type 0 where
@@ -68,63 +62,48 @@ abbrev pub ChainSays : List TokenKind → Pos → List Row → List Row → Resu
 ChainSays s p old new (Ok q) = (e : Expr) × Chain (from s p.at) (from s q.at) e × Tree s p new q e × Front p.rows old new
 ChainSays s p old new (Err why) = NoChain (from s p.at) why
 
--- juxtaposed operands, the last of them as q says
+-- `kids` juxtaposed operands stand between p and q
 pub record Running (s : List TokenKind) (p : Pos) (work : List Row) (q : Pos) (kids : ℕ) : Type 0 where
-  pub before : Exprs
-  pub last : Expr
-  pub goes : Run (from s p.at) (from s q.at) (before ⧺ (last ◂ none))
-  pub held : Held p.rows p.cites work q.rows q.cites (before ⧺ (last ◂ none))
+  pub run : Exprs
+  pub goes : Run (from s p.at) (from s q.at) run
+  pub held : Held p.rows p.cites work q.rows q.cites run
   pub within : Within s p q.at q.rows q.cites kids
-  pub number : kids ≡ many before + 1
-  pub kinded : q.kind ≡ node_kind last
-  pub kidded : q.kids ≡ operands last
-  pub room : kids ≡ 1 → q.rows + q.kids + 2 * p.cites ≤ p.rows + 1 + 2 * q.cites
-  pub few : kids ≡ 1 → q.kids + p.cites ≤ q.cites
-  pub wide : ¬ (q.kind ≡ Citation) → 2 ≤ q.kids
+  pub number : kids ≡ many run
+  pub some : 1 ≤ kids
 
--- a chain before its next operand
-pub record Before (s : List TokenKind) (p : Pos) (work : List Row) (q : Pos) : Type 0 where
+-- a chain of `kids` operands, past an operator of this kind
+pub record Before (s : List TokenKind) (p : Pos) (work : List Row) (q : Pos) (kind : NodeKind) (kids : ℕ) : Type 0 where
   pub sign : Op
   pub es : Exprs
   pub goes : Waits (from s p.at) (from s q.at) sign es
   pub held : Held p.rows p.cites work q.rows q.cites es
-  pub within : Within s p q.at q.rows q.cites q.kids
-  pub kinded : q.kind ≡ sign_kind sign
-  pub kidded : q.kids ≡ many es
-  pub some : 1 ≤ q.kids
+  pub within : Within s p q.at q.rows q.cites kids
+  pub kinded : kind ≡ sign_kind sign
+  pub kidded : kids ≡ many es
+  pub some : 1 ≤ kids
 
--- a chain after an operand
-pub record After (s : List TokenKind) (p : Pos) (work : List Row) (q : Pos) : Type 0 where
+-- the same past an operand
+pub record After (s : List TokenKind) (p : Pos) (work : List Row) (q : Pos) (kind : NodeKind) (kids : ℕ) : Type 0 where
   pub sign : Op
   pub es : Exprs
   pub goes : Links (from s p.at) (from s q.at) sign es
   pub held : Held p.rows p.cites work q.rows q.cites es
-  pub within : Within s p q.at q.rows q.cites q.kids
-  pub kinded : q.kind ≡ sign_kind sign
-  pub kidded : q.kids ≡ many es
-  pub some : 2 ≤ q.kids
+  pub within : Within s p q.at q.rows q.cites kids
+  pub kinded : kind ≡ sign_kind sign
+  pub kidded : kids ≡ many es
+  pub two : 2 ≤ kids
 
--- the node of q's operands has its row
+-- one row more
 abbrev pub noded : Pos → Pos
-noded q = record { at = q.at; rows = q.rows + 1; cites = q.cites; kind = q.kind; kids = q.kids }
+noded q = record { at = q.at; rows = q.rows + 1; cites = q.cites }
 
--- one token on, with this kind and so many rows and operands
-abbrev pub past : Pos → NodeKind → (rows kids : ℕ) → Pos
-past q kind rows kids = record { at = q.at + 1; rows = rows; cites = q.cites; kind = kind; kids = kids }
+-- one token on
+abbrev pub past : Pos → Pos
+past q = record { at = q.at + 1; rows = q.rows; cites = q.cites }
 
--- the rows with that of the node of q's operands, which begin at `start`
-abbrev pub noded_rows : List Row → ℕ → Pos → List Row
-noded_rows work start q = set work q.rows (pack q.kind q.kids (q.rows + 1 - start))
-
--- past the operator after a lead: the chain's operands are the lead's own if it is a node of that operator, else the lead itself
-pub data Led (q : Pos) (sign : NodeKind) : Pos → Type 0 where
-  own : q.kind ≡ sign → Led q sign (past q q.kind (q.rows - 1) q.kids)
-  other : ¬ (q.kind ≡ sign) → Led q sign (past q sign q.rows 1)
-
--- a chain past the operator `sign`, and the rows: with its own it goes on, of another it is the first operand
-pub data Grown (work : List Row) (start : ℕ) (q : Pos) (sign : NodeKind) : List Row → Pos → Type 0 where
-  again : q.kind ≡ sign → Grown work start q sign work (past q q.kind q.rows q.kids)
-  another : ¬ (q.kind ≡ sign) → Grown work start q sign (noded_rows work start q) (past q sign (q.rows + 1) 1)
+-- the rows with that of a node of this kind and number of operands, whose rows begin at `start`
+abbrev pub noded_rows : List Row → ℕ → Pos → NodeKind → ℕ → List Row
+noded_rows work start q kind kids = set work q.rows (pack kind kids (q.rows + 1 - start))
 
 -- `count` trees stand in postorder before `top`, and their rows fit before `end`
 pub record Stand (work : List Row) (top count end : ℕ) : Type 0 where

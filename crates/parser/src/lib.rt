@@ -11,7 +11,7 @@ ghost use Rattle.grammar.specs.Reading.{citation_limit};
 ghost use Rattle.parser.specs.Packed.{pack, child_count};
 ghost use Rattle.parser.specs.Answer.{cites_in, parsed_kinds, rows_over};
 ghost use Rattle.parser.specs.Tokens.{from, op_ahead, operand_ahead};
-ghost use Rattle.parser.specs.States.{Ready, AtomSays, JuxSays, ChainSays, noded, past, noded_rows, Led, Grown, Stand, Placed};
+ghost use Rattle.parser.specs.States.{Ready, AtomSays, JuxSays, ChainSays, noded, past, noded_rows, Stand, Placed};
 
 use fields::map_into;
 use grammar::NodeKind;
@@ -19,14 +19,12 @@ use lexer::TokenKind;
 use refusal::Refusal;
 use utf8::TEXT_LIMIT;
 
-// A place in the tokens, the rows written and the citations met; of what was read last, its kind and number of operands.
+// A place in the tokens, the rows written and the citations met.
 #[derive(Clone, Copy)]
 pub struct Pos {
     pub at: usize,
     pub rows: usize,
     pub cites: usize,
-    pub kind: NodeKind,
-    pub kids: usize,
 }
 
 // A node's row: its kind, the number of its children or of its citation, and the rows in its subtree.
@@ -81,56 +79,21 @@ fn row_children(row: Row) -> usize
     row.number as usize
 }
 
-// Writes the row of the node whose operands' rows begin at `start`.
-fn add_node(work: &mut [Row], start: usize, q: Pos) -> Pos
-    requires { (start ≤ q.rows) × (q.rows < length work.old) × (q.kids ≤ citation_limit) × (q.rows ≤ start + 2 * citation_limit) }
+// Writes the row of the node of this kind with so many operands, whose rows begin at `start`.
+fn add_node(work: &mut [Row], start: usize, q: Pos, kind: NodeKind, kids: usize) -> Pos
+    requires { (start ≤ q.rows) × (q.rows < length work.old) × (kids ≤ citation_limit) × (q.rows ≤ start + 2 * citation_limit) }
     ensures value { result ≡ noded q }
-    ensures work_after { work.new ≡ noded_rows work.old start q }
+    ensures work_after { work.new ≡ noded_rows work.old start q kind kids }
 {
     let end = q.rows;
-    work[end] = make_row(q.kind, q.kids, end + 1 - start);
+    work[end] = make_row(kind, kids, end + 1 - start);
     Pos { rows: end + 1, ..q }
 }
 
-// Past the operator after a lead: if the lead is a node of that operator, its operands are the chain's.
-fn led(lead: Pos, op: NodeKind) -> Pos
-    requires { (1 ≤ lead.rows) × (lead.at ≤ text_limit) }
-    ensures { Led lead op result }
-{
-    let next = past_token(lead);
-    if lead.kind == op {
-        return Pos {
-            rows: lead.rows - 1,
-            ..next
-        };
-    }
-    Pos {
-        kind: op,
-        kids: 1,
-        ..next
-    }
-}
-
-// A chain past the operator after its last operand: it grows by its own; another takes it as its first operand.
-fn grow(work: &mut [Row], start: usize, q: Pos, op: NodeKind) -> Pos
-    requires { (start ≤ q.rows) × (q.rows < length work.old) × (q.kids ≤ citation_limit) × (q.rows ≤ start + 2 * citation_limit) × (q.at ≤ text_limit) }
-    ensures { Grown work.old start q op work.new result }
-{
-    if q.kind == op {
-        return past_token(q);
-    }
-    let whole = past_token(add_node(work, start, q));
-    Pos {
-        kind: op,
-        kids: 1,
-        ..whole
-    }
-}
-
-// One token on. That a place is within a text's limit stands in clauses, here and where operators are passed: as a type's fact it would be proved at each place that is made.
+// One token on. That a place is within a text's limit is asked here: as a type's fact it would be proved at each place that is made.
 fn past_token(q: Pos) -> Pos
     requires { q.at ≤ text_limit }
-    ensures { result ≡ past q q.kind q.rows q.kids }
+    ensures { result ≡ past q }
 {
     Pos { at: q.at + 1, ..q }
 }
@@ -152,8 +115,6 @@ fn parse_atom(toks: &[TokenKind], work: &mut [Row], p: Pos) -> Result<Pos, Refus
                 at: p.at + 1,
                 rows: p.rows + 1,
                 cites: p.cites + 1,
-                kind: NodeKind::Citation,
-                kids: 0,
             })
         }
         TokenKind::Opening => {
@@ -183,37 +144,36 @@ fn parse_juxtaposition(toks: &[TokenKind], work: &mut [Row], p: Pos) -> Result<P
     if kids == 1 {
         return Ok(q);
     }
-    let run = Pos {
-        kind: NodeKind::Then,
-        kids,
-        ..q
-    };
-    Ok(add_node(work, p.rows, run))
+    Ok(add_node(work, p.rows, q, NodeKind::Then, kids))
 }
 
-// Juxtapositions joined by operators, from left to right.
+// Juxtapositions joined by operators, from left to right: a chain grows by its own operator; another takes it as the first operand of a new one.
 #[cycle(parse)]
 fn parse_chain(toks: &[TokenKind], work: &mut [Row], p: Pos) -> Result<Pos, Refusal>
     requires { Ready toks.now (length work.old) p }
     ensures { ChainSays toks.now p work.old work.new result }
 {
     let lead = parse_juxtaposition(toks, work, p)?;
-    let Some(op) = op_at(toks, lead.at) else {
+    let Some(first) = op_at(toks, lead.at) else {
         return Ok(lead);
     };
-    let mut q = led(lead, op);
+    let mut op = first;
+    let mut kids = 1;
+    let mut q = past_token(lead);
     // No `for`, as above.
     loop {
         let next = parse_juxtaposition(toks, work, q)?;
-        let chain = Pos {
-            kind: q.kind,
-            kids: q.kids + 1,
-            ..next
+        kids += 1;
+        let Some(sign) = op_at(toks, next.at) else {
+            return Ok(add_node(work, p.rows, next, op, kids));
         };
-        let Some(op) = op_at(toks, next.at) else {
-            return Ok(add_node(work, p.rows, chain));
-        };
-        q = grow(work, p.rows, chain, op);
+        if sign == op {
+            q = past_token(next);
+        } else {
+            q = past_token(add_node(work, p.rows, next, op, kids));
+            op = sign;
+            kids = 1;
+        }
     }
 }
 
@@ -246,8 +206,6 @@ pub fn parse_tokens(
         at: 0,
         rows: 0,
         cites: 0,
-        kind: NodeKind::Citation,
-        kids: 0,
     };
     let q = parse_chain(toks, work, start)?;
     if q.at < toks.len() {

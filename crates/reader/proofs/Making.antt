@@ -18,7 +18,7 @@ use Rattle.grammar.specs.Rows.{rows, span, rows_span}
 use Rattle.grammar.specs.Parse.{parse}
 use Rattle.grammar.proofs.Cites.{parse-cites}
 use Rattle.grammar.specs.Reading.{citation_limit, expression}
-use Rattle.grammar.proofs.Reading.{expression_given}
+use Rattle.grammar.proofs.Reading.{expression_fits}
 use Rattle.lexer.specs.Tokens.{counted, tokenized}
 use Rattle.lexer.specs.declared.TokenKind.{TokenKind}
 use Rattle.lexer.specs.declared.Place.{Place}
@@ -103,7 +103,7 @@ module _ (s : List ℕ) {kinds : List TokenKind} {places : List Place} {k p w r 
       record {
         tree = x;
         is = is;
-        fits = (expression_given (decode s) (utf8_sound s u).0 x is).1;
+        fits = expression_fits (decode s) (utf8_sound s u).0 x is;
         nodes = g.many;
         cites = told_counts.cites ∙ ap length (sym c);
         bytes = told_counts.bytes ∙ ap (λ y. length (concat y)) (sym c);

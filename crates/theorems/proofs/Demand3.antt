@@ -1,5 +1,5 @@
--- Demand 3, at the bytes that the public functions take and write. Assumes nothing.
-use Rattle.std.specs.Prelude.{◌≡◌, refl, List, ◌↔◌, ℕ, ◌≤◌, length, take, Result, Ok, Err, Some, None, Option}
+-- Demand 3, for every tree that the test accepts, at the bytes that the public functions take and write. Assumes nothing.
+use Rattle.std.specs.Prelude.{◌≡◌, refl, List, true, ◌↔◌, ℕ, ◌≤◌, length, take, Result, Ok, Err, Some, None, Option}
 use Rattle.std.proofs.Common.{sym, ap, ◌∙◌, subst, arith}
 use Rattle.refusal.specs.declared.Refusal.{Refusal}
 use Rattle.refusal.specs.Result.{then, map_ok, err≢ok}
@@ -10,43 +10,49 @@ use Rattle.grammar.specs.Flat.{flat}
 use Rattle.grammar.proofs.Flat.{print_flat}
 use Rattle.grammar.specs.Reading.{reading, Fits}
 use Rattle.grammar.specs.Status.{Stated, alone, stated, status_reading}
-use Rattle.grammar.specs.Bytes.{bytes_of, tree_of}
+use Rattle.grammar.specs.Bytes.{bytes_of, is_tree, tree_of}
+use Rattle.grammar.specs.Pack.{IsBytes}
+use Rattle.grammar.specs.Trees.{IsTree}
+use Rattle.grammar.proofs.Trees as trees
 use Rattle.grammar.proofs.Theorems as grammar
-use Rattle.grammar.specs.Theorems.{WasRead, as_expression, after_status}
-use Rattle.grammar.proofs.Theorems.{read_fits, flat_fits, tree_of_bytes}
+use Rattle.grammar.proofs.Theorems.{read_fits, status_fits, flat_fits, tree_of_bytes, is_tree_lem}
 use Rattle.semantics.specs.Presence.{oracle_of}
 use Rattle.grammar.specs.Outcome.{Written, Outcome, answer_of, written_of, with_length, parse_answer, display_answer, StatusSaid, with_status, stated_bytes, status_answer, accepted}
 use Rattle.grammar.proofs.Outcome.{answer_fits, written_fits, answer_short, written_short, written_back}
 use Rattle.semantics.specs.Truth.{counts_on}
 use Rattle.semantics.specs.Answers.{eval_answer, verdicts_answer, eval_and_truth_answer, pakete_answer}
 use Rattle.semantics.proofs.Flat as flats
-use Rattle.theorems.specs.Demand3.{Held, by_expression, by_status, IsHeld, flat_tree, Writes, print_in, PrintReads, AnswersAlike, SameIn, Promised}
+use Rattle.theorems.specs.Demand3.{flat_tree, Writes, print_in, PrintReads, AnswersAlike, SameIn, Promised}
 
--- Where the trees come from.
+-- Trees: what the test accepts, and what reading writes.
 
--- a tree that `Expr::parse` writes is the bytes of an expression that was read
-pub parse-read : (s : List ℕ) (w : Written ℕ) → parse_answer s ≡ Ok w → (e : Expr) × WasRead e × (w ≡ with_length (bytes_of e))
+-- byte strings are trees exactly if the test accepts them
+pub tree_tested : (t : List ℕ) → IsBytes t → (is_tree t ≡ true) ↔ IsTree t
+tree_tested t i = (trees.tested t i, λ h. ap is_tree h.is ∙ is_tree_lem h.expr h.fits)
+
+-- what `Expr::parse` writes is the bytes of an expression that fits
+pub parse-read : (s : List ℕ) (w : Written ℕ) → parse_answer s ≡ Ok w → (e : Expr) × Fits e × (w ≡ with_length (bytes_of e))
 unfolding parse_answer map_ok
 parse-read s w h = go (reading s) refl h
   where
-    go : (r : Result Expr Refusal) → reading s ≡ r → map_ok (λ e. with_length (bytes_of e)) r ≡ Ok w → (e : Expr) × WasRead e × (w ≡ with_length (bytes_of e))
-    go (Ok e) q k = let same : with_length (bytes_of e) ≡ w = cc in (e, as_expression s e q, sym same)
+    go : (r : Result Expr Refusal) → reading s ≡ r → map_ok (λ e. with_length (bytes_of e)) r ≡ Ok w → (e : Expr) × Fits e × (w ≡ with_length (bytes_of e))
+    go (Ok e) q k = let same : with_length (bytes_of e) ≡ w = cc in (e, read_fits s e q, sym same)
     go (Err n) q k = absurd (err≢ok k)
 
--- and so is one that `Status::parse` writes after a word
+-- and so is what `Status::parse` writes after a word
 pub status_read : (s : List ℕ) (k : StatusKind) (n : ℕ) (b : List ℕ) → status_answer s ≡ Ok (record { answer = (k, Some n); bytes = b })
-    → (e : Expr) × WasRead e × (n ≡ length (bytes_of e)) × (b ≡ bytes_of e)
+    → (e : Expr) × Fits e × (n ≡ length (bytes_of e)) × (b ≡ bytes_of e)
 unfolding status_answer map_ok
 status_read s k n b h = go (status_reading s) refl h
   where
     go : (r : Result Stated Refusal) → status_reading s ≡ r → map_ok stated_bytes r ≡ Ok (record { answer = (k, Some n); bytes = b })
-        → (e : Expr) × WasRead e × (n ≡ length (bytes_of e)) × (b ≡ bytes_of e)
+        → (e : Expr) × Fits e × (n ≡ length (bytes_of e)) × (b ≡ bytes_of e)
     go (Ok (stated j e)) q p =
         let same : with_status j (bytes_of e) ≡ record { answer = (k, Some n); bytes = b } = cc in
         let said : ◌≡◌ {A = StatusSaid} (j, Some (length (bytes_of e))) (k, Some n) = ap (λ w. w.answer) same in
         let some : ◌≡◌ {A = Option ℕ} (Some (length (bytes_of e))) (Some n) = ap (λ (x : StatusSaid). x.1) said in
         let size : length (bytes_of e) ≡ n = cc in
-        (e, after_status s j e q, sym size, sym (ap (λ w. w.bytes) same))
+        (e, status_fits s j e q, sym size, sym (ap (λ w. w.bytes) same))
     go (Ok (alone j)) q p =
         let same : stated_bytes (alone j) ≡ record { answer = (k, Some n); bytes = b } = cc in
         let said : ◌≡◌ {A = StatusSaid} (j, None) (k, Some n) = ap (λ w. w.answer) same in
@@ -55,8 +61,9 @@ status_read s k n b h = go (status_reading s) refl h
         absurd (omega arith)
     go (Err m) q p = absurd (err≢ok p)
 
-expression_held : (s buffer : List ℕ) (n : ℕ) → answer_of (parse_answer s) (length buffer) ≡ Ok n → IsHeld (take n (written_of (parse_answer s) buffer))
-expression_held s buffer n h =
+-- after an accepted `Expr::parse` so many bytes of the buffer are a tree
+pub expression_tree : (s buffer : List ℕ) (n : ℕ) → answer_of (parse_answer s) (length buffer) ≡ Ok n → IsTree (take n (written_of (parse_answer s) buffer))
+expression_tree s buffer n h =
     let a = accepted (parse_answer s) (length buffer) n h in
     let r = parse-read s (record { answer = n; bytes = a.bytes }) a.came in
     let e = r.0 in
@@ -66,12 +73,13 @@ expression_held s buffer n h =
     let came : parse_answer s ≡ Ok (with_length (bytes_of e)) = a.came ∙ ap Ok r.2 in
     record {
       expr = e;
-      was_read = r.1;
+      fits = r.1;
       is = ap (λ (i : ℕ). take i (written_of (parse_answer s) buffer)) size ∙ ap (λ o. take (length (bytes_of e)) (written_of o buffer)) came ∙ written_back (with_length (bytes_of e)) buffer room;
     }
 
-status_held : (s buffer : List ℕ) (k : StatusKind) (n : ℕ) → answer_of (status_answer s) (length buffer) ≡ Ok (k, Some n) → IsHeld (take n (written_of (status_answer s) buffer))
-status_held s buffer k n h =
+-- and so they are after a `Status::parse` that said a length
+pub status_tree : (s buffer : List ℕ) (k : StatusKind) (n : ℕ) → answer_of (status_answer s) (length buffer) ≡ Ok (k, Some n) → IsTree (take n (written_of (status_answer s) buffer))
+status_tree s buffer k n h =
     let a = accepted (status_answer s) (length buffer) (k, Some n) h in
     let r = status_read s k n a.bytes a.came in
     let e = r.0 in
@@ -83,14 +91,9 @@ status_held s buffer k n h =
     let came : status_answer s ≡ Ok w = a.came ∙ ap (λ (x : StatusSaid). Ok (record { answer = x; bytes = a.bytes })) said ∙ ap (λ (x : List ℕ). Ok (record { answer = (k, Some (length (bytes_of e))); bytes = x })) same in
     record {
       expr = e;
-      was_read = r.1;
+      fits = r.1;
       is = ap (λ (i : ℕ). take i (written_of (status_answer s) buffer)) size ∙ ap (λ o. take (length (bytes_of e)) (written_of o buffer)) came ∙ written_back w buffer room;
     }
-
--- a held tree is the bytes of an expression that was read
-pub held_is : (t : List ℕ) → Held t → IsHeld t
-held_is t (by_expression s buffer n h) = expression_held s buffer n h
-held_is t (by_status s buffer k n h) = status_held s buffer k n h
 
 -- by its outcome
 pub writes : (o : Outcome ℕ) (b : List ℕ) → o ≡ Ok (with_length b) → Writes o b
@@ -101,32 +104,32 @@ writes o b h = record {
   kept = λ buffer l. ap (λ x. written_of x buffer) h ∙ written_short (with_length b) buffer l;
 }
 
-module _ (e : Expr) (w : WasRead e) where
+module _ (e : Expr) (f : Fits e) where
   shown_is : display_answer (bytes_of e) ≡ Ok (with_length (printed e))
   unfolding display_answer map_ok
-  shown_is = rw (tree_of_bytes e (read_fits e w))
+  shown_is = rw (tree_of_bytes e f)
 
   again_is : parse_answer (printed e) ≡ Ok (with_length (bytes_of (flat e)))
   unfolding parse_answer map_ok
-  again_is = rw (grammar.read-printed e w)
+  again_is = rw (grammar.read-printed e f)
 
   print_in_lem : (buffer : List ℕ) → length (printed e) ≤ length buffer → print_in e buffer ≡ printed e
   print_in_lem buffer h = ap (λ o. take (length (printed e)) (written_of o buffer)) shown_is ∙ written_back (with_length (printed e)) buffer h
 
--- for every text that was read, as an expression or after a status word: its print, read as an expression, gives its flat tree
-pub read-printed : (e : Expr) → WasRead e → PrintReads e
-read-printed e w = record {
-  shown = writes _ (printed e) (shown_is e w);
-  again = λ buffer h. writes _ (bytes_of (flat e)) (ap parse_answer (print_in_lem e w buffer h) ∙ again_is e w);
+-- the print of an expression that fits reads as its flat tree
+pub read-printed : (e : Expr) → Fits e → PrintReads e
+read-printed e f = record {
+  shown = writes _ (printed e) (shown_is e f);
+  again = λ buffer h. writes _ (bytes_of (flat e)) (ap parse_answer (print_in_lem e f buffer h) ∙ again_is e f);
 }
 
--- two trees that were read print alike exactly when the bytes of their flat trees are alike
-pub printed_alike : (a b : Expr) → WasRead a → WasRead b
+-- two expressions that fit print alike exactly when the bytes of their flat trees are alike
+pub printed_alike : (a b : Expr) → Fits a → Fits b
     → (display_answer (bytes_of a) ≡ display_answer (bytes_of b)) ↔ (bytes_of (flat a) ≡ bytes_of (flat b))
-printed_alike a b v w =
-    let shown_a = shown_is a v in
-    let shown_b = shown_is b w in
-    let same = grammar.printed_alike a b v w in (
+printed_alike a b fa fb =
+    let shown_a = shown_is a fa in
+    let shown_b = shown_is b fb in
+    let same = grammar.printed_alike a b fa fb in (
       λ h. let ends : Ok (with_length (printed a)) ≡ Ok (with_length (printed b)) = sym shown_a ∙ h ∙ shown_b in
           let one : with_length (printed a) ≡ with_length (printed b) = cc in
           same.0 (ap (λ x. x.bytes) one),
@@ -174,63 +177,90 @@ module _ (e : Expr) (f : Fits e) where
   unfolding pakete_answer map_ok
   pakete_flat = rw (flat_is, tree_is, flats.pakete_flat e)
 
-  -- for every expression that has tree bytes, read or not
-  pub fitting_flat_agrees : AnswersAlike (bytes_of (flat e)) (bytes_of e)
-  fitting_flat_agrees = record {
+  -- the flat tree answers as the tree does
+  pub flat_agrees : AnswersAlike (bytes_of (flat e)) (bytes_of e)
+  flat_agrees = record {
     eval = eval_flat;
     pakete = pakete_flat;
     verdicts = verdicts_flat;
     eval_and_truth = both_flat;
   }
 
--- the flat tree of what was read answers as its tree does
-pub flat_agrees : (e : Expr) → WasRead e → AnswersAlike (bytes_of (flat e)) (bytes_of e)
-flat_agrees e w = fitting_flat_agrees e (read_fits e w)
-
-module _ (e : Expr) (w : WasRead e) where
   flat_of : flat_tree (bytes_of e) ≡ Ok (bytes_of (flat e))
   unfolding flat_tree map_ok
-  flat_of = rw (tree_of_bytes e (read_fits e w))
+  flat_of = rw tree_is
 
   flat_shown : display_answer (bytes_of (flat e)) ≡ display_answer (bytes_of e)
   unfolding display_answer map_ok
-  flat_shown = rw (flat_is e (read_fits e w), tree_is e (read_fits e w), print_flat in_bytes e (read_fits e w).wide)
+  flat_shown = rw (flat_is, tree_is, print_flat in_bytes e f.wide)
 
   reads_again : (buffer : List ℕ) (n : ℕ) → answer_of (display_answer (bytes_of e)) (length buffer) ≡ Ok n
       → Writes (parse_answer (take n (written_of (display_answer (bytes_of e)) buffer))) (bytes_of (flat e))
   reads_again buffer n h =
       let a = accepted (display_answer (bytes_of e)) (length buffer) n h in
-      let one : Ok (with_length (printed e)) ≡ Ok (record { answer = n; bytes = a.bytes }) = sym (shown_is e w) ∙ a.came in
+      let one : Ok (with_length (printed e)) ≡ Ok (record { answer = n; bytes = a.bytes }) = sym (shown_is e f) ∙ a.came in
       let same : with_length (printed e) ≡ record { answer = n; bytes = a.bytes } = cc in
       let size : length (printed e) ≡ n = ap (λ x. x.answer) same in
       let room : length (printed e) ≤ length buffer = omega (arith, ap (λ x. length x.bytes) same, a.room) in
-      subst (λ (i : ℕ). Writes (parse_answer (take i (written_of (display_answer (bytes_of e)) buffer))) (bytes_of (flat e))) size ((read-printed e w).again buffer room)
+      subst (λ (i : ℕ). Writes (parse_answer (take i (written_of (display_answer (bytes_of e)) buffer))) (bytes_of (flat e))) size ((read-printed e f).again buffer room)
 
   promised_of : Promised (bytes_of e)
   promised_of = record {
     flat_bytes = bytes_of (flat e);
     print = printed e;
     is_flat = flat_of;
-    shown = (read-printed e w).shown;
+    shown = (read-printed e f).shown;
     again = reads_again;
-    alike = flat_agrees e w;
+    alike = flat_agrees;
     shown_alike = flat_shown;
   }
 
--- every held tree keeps the promise
-pub held_promised : (t : List ℕ) → Held t → Promised t
-held_promised t h = let k = held_is t h in subst Promised (sym k.is) (promised_of k.expr k.was_read)
+-- For every tree, that is, all that the test accepts (`tree_tested`): read, or made by hand.
 
--- two held trees print alike exactly when their flat trees are alike
-pub held_alike : (a b : List ℕ) → Held a → Held b → (display_answer a ≡ display_answer b) ↔ (flat_tree a ≡ flat_tree b)
-held_alike a b h g =
-    let k = held_is a h in
-    let l = held_is b g in
-    let same = printed_alike k.expr l.expr k.was_read l.was_read in
-    let fa : flat_tree a ≡ Ok (bytes_of (flat k.expr)) = ap flat_tree k.is ∙ flat_of k.expr k.was_read in
-    let fb : flat_tree b ≡ Ok (bytes_of (flat l.expr)) = ap flat_tree l.is ∙ flat_of l.expr l.was_read in (
+module _ (t : List ℕ) (h : IsTree t) where
+  -- a tree keeps the promise
+  pub promised : Promised t
+  promised = subst Promised (sym h.is) (promised_of h.expr h.fits)
+
+  -- the flat tree of a tree, by its expression
+  flat_of_tree : flat_tree t ≡ Ok (bytes_of (flat h.expr))
+  flat_of_tree = ap flat_tree h.is ∙ flat_of h.expr h.fits
+
+  -- its print likewise
+  print_of_tree : display_answer t ≡ Ok (with_length (printed h.expr))
+  print_of_tree = ap display_answer h.is ∙ shown_is h.expr h.fits
+
+-- two trees print alike exactly when their flat trees are alike
+pub trees_alike : (a b : List ℕ) → IsTree a → IsTree b → (display_answer a ≡ display_answer b) ↔ (flat_tree a ≡ flat_tree b)
+trees_alike a b k l =
+    let same = printed_alike k.expr l.expr k.fits l.fits in
+    let fa = flat_of_tree a k in
+    let fb = flat_of_tree b l in (
       λ q. fa ∙ ap Ok (same.0 (sym (ap display_answer k.is) ∙ q ∙ ap display_answer l.is)) ∙ sym fb,
       λ q. let one : Ok (bytes_of (flat k.expr)) ≡ Ok (bytes_of (flat l.expr)) = sym fa ∙ q ∙ fb in
           let two : bytes_of (flat k.expr) ≡ bytes_of (flat l.expr) = cc in
           ap display_answer k.is ∙ same.1 two ∙ sym (ap display_answer l.is),
     )
+
+-- a print on file reads as the flat tree of its tree. How that tree came about is not asked: so this holds of older prints too, from when a group
+-- in front merged, if what was filed then was the print of a tree; that the former reading wrote trees is not proved here
+pub filed_print : (t p : List ℕ) → IsTree t → display_answer t ≡ Ok (with_length p) → (f : List ℕ) × (flat_tree t ≡ Ok f) × (parse_answer p ≡ Ok (with_length f))
+filed_print t p k q =
+    let one : Ok (with_length p) ≡ Ok (with_length (printed k.expr)) = sym q ∙ print_of_tree t k in
+    let same : with_length p ≡ with_length (printed k.expr) = cc in
+    (bytes_of (flat k.expr), flat_of_tree t k, ap (λ x. parse_answer x.bytes) same ∙ again_is k.expr k.fits)
+
+-- up to flattening the trees that `Expr::parse` writes are all trees: they have the same flat trees
+pub read_or_made : (f : List ℕ) → ((t : List ℕ) × IsTree t × (flat_tree t ≡ Ok f)) ↔ ((s t : List ℕ) × (parse_answer s ≡ Ok (with_length t)) × (flat_tree t ≡ Ok f))
+read_or_made f = (made, read)
+  where
+    made : (t : List ℕ) × IsTree t × (flat_tree t ≡ Ok f) → (s t : List ℕ) × (parse_answer s ≡ Ok (with_length t)) × (flat_tree t ≡ Ok f)
+    made (t, h, q) =
+        let e = h.expr in
+        let again : flat_tree (bytes_of (flat e)) ≡ Ok (bytes_of (flat e)) = flat_of (flat e) (flat_fits e h.fits) ∙ ap (λ x. Ok (bytes_of x)) (grammar.flat_again e h.fits) in
+        (printed e, bytes_of (flat e), again_is e h.fits, again ∙ sym (flat_of_tree t h) ∙ q)
+
+    read : (s t : List ℕ) × (parse_answer s ≡ Ok (with_length t)) × (flat_tree t ≡ Ok f) → (t : List ℕ) × IsTree t × (flat_tree t ≡ Ok f)
+    read (s, t, h, q) =
+        let r = parse-read s (with_length t) h in
+        (t, record { expr = r.0; fits = r.1; is = ap (λ w. w.bytes) r.2 }, q)

@@ -12,8 +12,9 @@ use Rattle.ahb.specs.Numbers.{accepted_from, code_step, coded, ReadSaid, express
 use Rattle.ahb.specs.Answers.{said_by, read_answer}
 use Rattle.ahb.specs.Determined.{ShortSaid, read-among}
 use Rattle.ahb.proofs.Laws.{said_written}
-use Rattle.theorems.specs.Demand3.{Held, by_expression, by_status, flat_tree, AnswersAlike}
-use Rattle.theorems.proofs.Demand3.{held_promised}
+use Rattle.grammar.specs.Trees.{IsTree}
+use Rattle.theorems.specs.Demand3.{flat_tree, AnswersAlike}
+use Rattle.theorems.proofs.Demand3.{expression_tree, status_tree, promised}
 use Rattle.theorems.specs.Gateway.{NumbersAlike}
 
 module _ (a b : List ℕ) (h : AnswersAlike a b) where
@@ -58,33 +59,33 @@ sized code n (Err j) p h a b = absurd (omega (arith, h, named_most p.0, p.1))
 
 module _ (s buffer : List ℕ) (n : ℕ) where
   expression_kept : (x : ReadSaid) → Sized x n → answer_of (map_ok (said_by expression) (parse_answer s)) (length buffer) ≡ Ok x
-      → Held (take n (written_of (map_ok (said_by expression) (parse_answer s)) buffer))
+      → IsTree (take n (written_of (map_ok (said_by expression) (parse_answer s)) buffer))
   expression_kept x z h =
       let m = map-said expression (answer_of (parse_answer s) (length buffer)) x (sym (said_answer expression (parse_answer s) (length buffer)) ∙ h) in
       let y : Sized (expression m.0) n = subst (λ u. Sized u n) (sym m.2) z in
-      subst (λ b. Held (take n b)) (sym (said_written expression (parse_answer s) buffer)) (by_expression s buffer n (m.1 ∙ ap Ok y))
+      subst (λ b. IsTree (take n b)) (sym (said_written expression (parse_answer s) buffer)) (expression_tree s buffer n (m.1 ∙ ap Ok y))
 
   status_kept : (x : ReadSaid) → Sized x n → answer_of (map_ok (said_by status) (status_answer s)) (length buffer) ≡ Ok x
-      → Held (take n (written_of (map_ok (said_by status) (status_answer s)) buffer))
+      → IsTree (take n (written_of (map_ok (said_by status) (status_answer s)) buffer))
   status_kept x z h =
       let m = map-said status (answer_of (status_answer s) (length buffer)) x (sym (said_answer status (status_answer s) (length buffer)) ∙ h) in
-      subst (λ b. Held (take n b)) (sym (said_written status (status_answer s) buffer)) (go m.0 m.1 (subst (λ u. Sized u n) (sym m.2) z))
+      subst (λ b. IsTree (take n b)) (sym (said_written status (status_answer s) buffer)) (go m.0 m.1 (subst (λ u. Sized u n) (sym m.2) z))
     where
-      go : (y : StatusSaid) → answer_of (status_answer s) (length buffer) ≡ Ok y → Sized (status y) n → Held (take n (written_of (status_answer s) buffer))
+      go : (y : StatusSaid) → answer_of (status_answer s) (length buffer) ≡ Ok y → Sized (status y) n → IsTree (take n (written_of (status_answer s) buffer))
       go (k, None) q z = absurd z
-      go (k, Some i) q z = by_status s buffer k n (q ∙ ap (λ (j : ℕ). Ok (k, Some j)) z)
+      go (k, Some i) q z = status_tree s buffer k n (q ∙ ap (λ (j : ℕ). Ok (k, Some j)) z)
 
--- a number of `ahb_read` that says a tree's length: so many bytes of the buffer are a tree that is held
-pub gateway_held : (mode : ℕ) (s buffer : List ℕ) (code n : ℕ) → read_number (answer_of (read_answer mode s) (length buffer)) ≡ accepted_from + coded code n
-    → 0 < n → n < code_step → Held (take n (written_of (read_answer mode s) buffer))
+-- a number of `ahb_read` that says a tree's length: so many bytes of the buffer are a tree
+pub gateway_tree : (mode : ℕ) (s buffer : List ℕ) (code n : ℕ) → read_number (answer_of (read_answer mode s) (length buffer)) ≡ accepted_from + coded code n
+    → 0 < n → n < code_step → IsTree (take n (written_of (read_answer mode s) buffer))
 unfolding read_answer
-gateway_held mode s buffer code n h a b =
+gateway_tree mode s buffer code n h a b =
     let z = sized code n (answer_of (read_answer mode s) (length buffer)) (read-among mode s (length buffer)) h a b in
     go (eqb mode 0) z.0 z.2 z.1
   where
     go : (t : Bool) (x : ReadSaid) → Sized x n
         → answer_of (cond t (map_ok (said_by expression) (parse_answer s)) (map_ok (said_by status) (status_answer s))) (length buffer) ≡ Ok x
-        → Held (take n (written_of (cond t (map_ok (said_by expression) (parse_answer s)) (map_ok (said_by status) (status_answer s))) buffer))
+        → IsTree (take n (written_of (cond t (map_ok (said_by expression) (parse_answer s)) (map_ok (said_by status) (status_answer s))) buffer))
     go true x z q = expression_kept s buffer n x z q
     go false x z q = status_kept s buffer n x z q
 
@@ -93,5 +94,5 @@ pub gateway_alike : (mode : ℕ) (s buffer : List ℕ) (code n : ℕ) → read_n
     → 0 < n → n < code_step → (f : List ℕ) × (flat_tree (take n (written_of (read_answer mode s) buffer)) ≡ Ok f) × NumbersAlike f (take n (written_of (read_answer mode s) buffer))
 gateway_alike mode s buffer code n h a b =
     let t = take n (written_of (read_answer mode s) buffer) in
-    let p = held_promised t (gateway_held mode s buffer code n h a b) in
+    let p = promised t (gateway_tree mode s buffer code n h a b) in
     (p.flat_bytes, p.is_flat, numbers_alike p.flat_bytes t p.alike)

@@ -24,7 +24,7 @@ use Rattle.formats.specs.Answers.{verdict_answer}
 use Rattle.grammar.specs.Expr.{And, Or, Xor, Expr, cite, join, none, ◌◂◌, ◌⧺◌, citations, concat}
 use Rattle.grammar.specs.Lex.{blank, symbol, part, outer, inner, lex, texts}
 use Rattle.grammar.specs.Citable.{holds, citable}
-use Rattle.grammar.specs.Parse.{same, gather, whole, led, grow, value, read, parse}
+use Rattle.grammar.specs.Parse.{same, gather, whole, grow, value, read, parse}
 use Rattle.grammar.specs.Print.{print, bracketed, sign_bytes}
 use Rattle.grammar.specs.Reading.{some_token, few, shallow, tree, expression, reading}
 use Rattle.grammar.specs.Rows.{op_kind, many, node, rows, firsts, rests, made, first, place, build}
@@ -67,8 +67,12 @@ abbrev pub cases : List (Said × Said)
 cases =
     -- P1
     (reads (reading (bytes "[1] ∧ [2] ∨ [3]")), reads (Ok (join Or (join And (c "1" ◂ c "2" ◂ none) ◂ c "3" ◂ none))))
-    -- P2
-    ∷ (reads (reading (bytes "([1] ⊻ [2]) ⊻ [3]")), reads (Ok (join Xor (c "1" ◂ c "2" ◂ c "3" ◂ none))))
+    -- P2, with its group kept
+    ∷ (reads (reading (bytes "([1] ⊻ [2]) ⊻ [3]")), reads (Ok (join Xor (join Xor (c "1" ◂ c "2" ◂ none) ◂ c "3" ◂ none))))
+    ∷ (prints (print_of "([1] ⊻ [2]) ⊻ [3]"), prints (Ok (bytes "([1] ⊻ [2]) ⊻ [3]")))
+    ∷ (presence_is (presence_of "([1] ⊻ [2]) ⊻ [3]" (2 ∷ 2 ∷ 2 ∷ [])), presence_is (Ok True))
+    ∷ (reads (reading (bytes "[1] ⊻ [2] ⊻ [3]")), reads (Ok (join Xor (c "1" ◂ c "2" ◂ c "3" ◂ none))))
+    ∷ (presence_is (presence_of "[1] ⊻ [2] ⊻ [3]" (2 ∷ 2 ∷ 2 ∷ [])), presence_is (Ok False))
     -- P3
     ∷ (prints (print_of "([1] [2]) [3]"), prints (Ok (bytes "[1] [2] [3]")))
     -- P4
@@ -109,5 +113,5 @@ wanted (x ∷ xs) = x.1 ∷ wanted xs
 
 -- every case holds
 pub cases_hold : said cases ≡ wanted cases
-unfolding reading admitted is_utf8 decode encode_char lead_of expression then map_ok lex outer inner part is_white symbol blank tree some_token few texts concat shallow parse read value whole gather grow led same ◌⧺◌ parse_answer display_answer answer_of eval_answer print bracketed sign_bytes tree_of is_tree head_ok tiles size_of rows_from cited_from rows_ok row_ok cites_ok citable holds tree_at forest_at first build place made firsts rests bytes_of packed head_bytes row_bytes cite_bytes two_bytes rows node op_kind many citations answers_fit presence_with answered before and_rule or_rule xor_rule two_true any every some_gate_with some_free_with kind_of kind_of_number number_up_to verdict rule_of judged against integer_of fraction_of fraction_at_most day_boundary is_full_form is_dtm_303 moment_of exists of_season is_date is_time is_mesz last_sunday month_days
+unfolding reading admitted is_utf8 decode encode_char lead_of expression then map_ok lex outer inner part is_white symbol blank tree some_token few texts concat shallow parse read value whole gather grow same ◌⧺◌ parse_answer display_answer answer_of eval_answer print bracketed sign_bytes tree_of is_tree head_ok tiles size_of rows_from cited_from rows_ok row_ok cites_ok citable holds tree_at forest_at first build place made firsts rests bytes_of packed head_bytes row_bytes cite_bytes two_bytes rows node op_kind many citations answers_fit presence_with answered before and_rule or_rule xor_rule two_true any every some_gate_with some_free_with kind_of kind_of_number number_up_to verdict rule_of judged against integer_of fraction_of fraction_at_most day_boundary is_full_form is_dtm_303 moment_of exists of_season is_date is_time is_mesz last_sunday month_days
 cases_hold = refl

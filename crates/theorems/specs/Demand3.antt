@@ -1,28 +1,14 @@
 -- Demand 3, at the bytes that the public functions take and write: what is said. The theorems stand in proofs/Demand3. Assumes nothing.
-use Rattle.std.specs.Prelude.{◌≡◌, List, ◌++◌, ℕ, ◌≤◌, ◌<◌, length, take, drop, Result, Ok, Err, Some}
+use Rattle.std.specs.Prelude.{◌≡◌, List, ◌++◌, ℕ, ◌≤◌, ◌<◌, length, take, drop, Result, Ok, Err}
 use Rattle.refusal.specs.declared.Refusal.{Refusal}
 use Rattle.refusal.specs.Result.{map_ok}
 use Rattle.refusal.specs.declared.Refusal.TheVariants.{NoRoom}
-use Rattle.status.specs.declared.StatusKind.{StatusKind}
 use Rattle.grammar.specs.Expr.{Expr}
 use Rattle.grammar.specs.Print.{printed}
 use Rattle.grammar.specs.Flat.{flat}
 use Rattle.grammar.specs.Bytes.{bytes_of, tree_of}
-use Rattle.grammar.specs.Theorems.{WasRead}
-use Rattle.grammar.specs.Outcome.{Outcome, answer_of, written_of, parse_answer, display_answer, status_answer}
+use Rattle.grammar.specs.Outcome.{Outcome, answer_of, written_of, parse_answer, display_answer}
 use Rattle.semantics.specs.Answers.{eval_answer, verdicts_answer, eval_and_truth_answer, pakete_answer}
-
--- a tree that is held: the first bytes of a buffer after `Expr::parse`, or `Status::parse`, was accepted with so many
-pub data Held : List ℕ → Type 0 where
-  by_expression : (s buffer : List ℕ) (n : ℕ) → answer_of (parse_answer s) (length buffer) ≡ Ok n → Held (take n (written_of (parse_answer s) buffer))
-  by_status : (s buffer : List ℕ) (k : StatusKind) (n : ℕ) → answer_of (status_answer s) (length buffer) ≡ Ok (k, Some n)
-      → Held (take n (written_of (status_answer s) buffer))
-
--- the expression whose bytes a held tree is
-pub record IsHeld (t : List ℕ) : Type 0 where
-  pub expr : Expr
-  pub was_read : WasRead expr
-  pub is : t ≡ bytes_of expr
 
 -- the flat tree of tree bytes (a term of document 01), or 15
 unfoldable pub flat_tree : List ℕ → Result (List ℕ) Refusal
@@ -65,9 +51,9 @@ pub record SameIn {A : Type 0} (o p : Outcome A) (x y : List ℕ) : Type 0 where
   pub answer : answer_of o (length x) ≡ answer_of p (length y)
   pub bytes : (a : A) → answer_of o (length x) ≡ Ok a → (b : List ℕ) × (written_of o x ≡ b ++ drop (length b) x) × (written_of p y ≡ b ++ drop (length b) y)
 
--- For the bytes that a caller holds.
+-- For every tree.
 
--- what is promised of a held tree: it has a flat tree and a print; what `display` left of the print in a buffer reads as the flat tree, into
+-- what is promised of a tree: it has a flat tree and a print; what `display` left of the print in a buffer reads as the flat tree, into
 -- any buffer; both trees answer alike and print alike
 pub record Promised (t : List ℕ) : Type 0 where
   pub flat_bytes : List ℕ

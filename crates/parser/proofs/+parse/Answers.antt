@@ -1,12 +1,16 @@
 use mathlib.Core.Path.{◌≡◌, refl, sym, ◌∙◌}
 use native.Mathlib.Omega.{arith}
-use lib.ListN.{length}
+use denote.Enum.Bare.{same_true, same_false}
+use Rattle.std.proofs.Common.{rules}
+use Rattle.grammar.specs.contracts.NodeKind.{the_type}
+use lib.ListN.{length, length-set}
 use Rattle.std.proofs.lemmas.Result.{err_from_is_err_and}
 use Rattle.lexer.specs.declared.TokenKind.TheVariants.{Citation}
-use Rattle.parser.specs.declared.Pos.{Pos}
+use Rattle.parser.specs.Packed.{pack}
 use Rattle.parser.proofs.Ahead.{cites_cite}
-use Rattle.parser.proofs.Turns.{ready_inner, row_left, tree_grew, atom_at_end, atom_none, atom_cited, atom_fails, atom_open, atom_grouped, run_starts, run_breaks, run_goes, jux_one, jux_many, chain_alone, chain_starts, chain_goes, chain_grows, chain_ends}
-use Prim.Native.Nat.{◌<◌, ◌≤◌, ◌+◌}
+use Rattle.parser.proofs.Holding.{front_set}
+use Rattle.parser.proofs.Turns.{ready_inner, row_left, atom_at_end, atom_none, atom_cited, atom_fails, atom_open, atom_grouped, run_starts, run_breaks, run_goes, jux_one, jux_many, chain_alone, chain_starts, chain_goes, chain_again, chain_other, chain_ends}
+use Prim.Native.Nat.{◌<◌, ◌≤◌, ◌+◌, ◌-◌}
 use Rattle.parser.proofs.+parse.Goals as goal
 
 pub parse_atom-returns-in_default : goal.parse_atom-returns-in_default
@@ -55,45 +59,38 @@ pub parse_chain-returns-in_default : goal.parse_chain-returns-in_default
 parse_chain-returns-in_default t c = let s = c.args.toks.now in let p = c.args.p in let old = c.args.work.now in let ready = c.requires in
     chain_alone s p old c.parse_juxtaposition.new.work _ c.in_ok-lead.ensures c.in_default.ensures
 
-pub parse_chain-led-q-requires : goal.parse_chain-led-q-requires
-parse_chain-led-q-requires t c = let s = c.args.toks.now in let p = c.args.p in let old = c.args.work.now in let ready = c.requires in
-    let h = c.in_ok-lead.ensures in
-    (omega (arith, tree_grew s p c.parse_juxtaposition.new.work c.in_ok-lead.lead h.0 h.2), omega (arith, h.2.within.inside, ready.short))
-
 pub parse_chain-loop-next-init : goal.parse_chain-loop-next-init
-parse_chain-loop-next-init t c = let s = c.args.toks.now in let p = c.args.p in let old = c.args.work.now in let ready = c.requires in
-    let st = chain_starts s p old c.parse_juxtaposition.new.work _ c.in_ok-lead.ensures c.in-Some.op c.in-Some.ensures _ c.led-q.ensures in
-    (st.0, refl, refl)
+parse_chain-loop-next-init t c = let s = c.args.toks.now in let p = c.args.p in let old = c.args.work.now in
+    let st = chain_starts s p old c.parse_juxtaposition.new.work _ c.in_ok-lead.ensures c.in-Some.first c.in-Some.ensures in
+    rw c.past_token-q.ensures (st.0, refl, refl)
 
 pub parse_chain-returns-in_default-op_at : goal.parse_chain-returns-in_default-op_at
 parse_chain-returns-in_default-op_at t c = let s = c.args.toks.now in let p = c.args.p in let old = c.args.work.now in let ready = c.requires in
-    let q = c.loop-next.q in let inv = c.loop-next.invariant in
-    let go = chain_goes s p c.loop-next.work q inv.0 c.parse_juxtaposition-in-loop-next.new.work _ c.in_ok-next.ensures in
-    let n = c.in_ok-next.next in let room = row_left s p (length old) n.at n.rows n.cites (q.kids + 1) ready go.0.within go.0.some in
+    let w = c.loop-next in let q = w.q in let inv = w.invariant in
+    let go = chain_goes s p w.work q w.op w.kids inv.0 c.parse_juxtaposition-in-loop-next.new.work _ c.in_ok-next.ensures in
+    let n = c.in_ok-next.next in let room = row_left s p (length old) n.at n.rows n.cites (w.kids + 1) ready go.0.within go.0.two in
     let fits : n.rows < length c.parse_juxtaposition-in-loop-next.new.work = omega (arith, room.0, inv.2) in
-    let chain : Pos = record { at = n.at; rows = n.rows; cites = n.cites; kind = q.kind; kids = q.kids + 1 } in
-    let st = chain_starts s p old c.parse_juxtaposition.new.work _ c.in_ok-lead.ensures c.in-Some.op c.in-Some.ensures _ c.led-q.ensures in
-    rw (c.add_node.ensures.value, c.add_node.ensures.work_after) (chain_ends s p _ chain go.0 fits old c.in_default-op_at.ensures (go.1 ∙ inv.1 ∙ st.1))
+    let st = chain_starts s p old c.parse_juxtaposition.new.work _ c.in_ok-lead.ensures c.in-Some.first c.in-Some.ensures in
+    rw (c.add_node.ensures.value, c.add_node.ensures.work_after) (chain_ends s p _ n w.op (w.kids + 1) go.0 old c.in_default-op_at.ensures fits (go.1 ∙ inv.1 ∙ st.1))
 
-pub parse_chain-loop-next-smaller : goal.parse_chain-loop-next-smaller
-parse_chain-loop-next-smaller t c = let s = c.args.toks.now in let p = c.args.p in let old = c.args.work.now in let ready = c.requires in
-    let q = c.loop-next.q in let inv = c.loop-next.invariant in
-    let go = chain_goes s p c.loop-next.work q inv.0 c.parse_juxtaposition-in-loop-next.new.work _ c.in_ok-next.ensures in
-    let n = c.in_ok-next.next in let room = row_left s p (length old) n.at n.rows n.cites (q.kids + 1) ready go.0.within go.0.some in
-    let fits : n.rows < length c.parse_juxtaposition-in-loop-next.new.work = omega (arith, room.0, inv.2) in
-    let chain : Pos = record { at = n.at; rows = n.rows; cites = n.cites; kind = q.kind; kids = q.kids + 1 } in
-    let grown = chain_grows s p _ chain go.0 fits c.in-Some-op_at.op c.in-Some-op_at.ensures _ _ c.grow-q.ensures in
-    omega (arith, grown.0.within.inside, grown.2, c.in_ok-next.ensures.2.within.later)
+pub parse_chain-loop-next-preserved-then-eq : goal.parse_chain-loop-next-preserved-then-eq
+parse_chain-loop-next-preserved-then-eq t c = let s = c.args.toks.now in let p = c.args.p in
+    let w = c.loop-next in let q = w.q in let inv = w.invariant in
+    let go = chain_goes s p w.work q w.op w.kids inv.0 c.parse_juxtaposition-in-loop-next.new.work _ c.in_ok-next.ensures in
+    let same = same_true the_type (search rules) _ _ (sym c.eq.ensures ∙ c.if-eq.true) in
+    let on = chain_again s p _ c.in_ok-next.next w.op (w.kids + 1) go.0 c.in-Some-op_at.sign c.in-Some-op_at.ensures same in
+    rw c.past_token-q-then-eq.ensures (on, go.1 ∙ inv.1, omega (arith, inv.2))
 
 pub parse_chain-loop-next-preserved : goal.parse_chain-loop-next-preserved
 parse_chain-loop-next-preserved t c = let s = c.args.toks.now in let p = c.args.p in let old = c.args.work.now in let ready = c.requires in
-    let q = c.loop-next.q in let inv = c.loop-next.invariant in
-    let go = chain_goes s p c.loop-next.work q inv.0 c.parse_juxtaposition-in-loop-next.new.work _ c.in_ok-next.ensures in
-    let n = c.in_ok-next.next in let room = row_left s p (length old) n.at n.rows n.cites (q.kids + 1) ready go.0.within go.0.some in
+    let w = c.loop-next in let q = w.q in let inv = w.invariant in
+    let go = chain_goes s p w.work q w.op w.kids inv.0 c.parse_juxtaposition-in-loop-next.new.work _ c.in_ok-next.ensures in
+    let n = c.in_ok-next.next in let room = row_left s p (length old) n.at n.rows n.cites (w.kids + 1) ready go.0.within go.0.two in
     let fits : n.rows < length c.parse_juxtaposition-in-loop-next.new.work = omega (arith, room.0, inv.2) in
-    let chain : Pos = record { at = n.at; rows = n.rows; cites = n.cites; kind = q.kind; kids = q.kids + 1 } in
-    let grown = chain_grows s p _ chain go.0 fits c.in-Some-op_at.op c.in-Some-op_at.ensures _ _ c.grow-q.ensures in
-    (grown.0, grown.1 ∙ go.1 ∙ inv.1, omega (arith, inv.2))
+    let not = same_false the_type _ _ (sym c.eq.ensures ∙ c.if-eq.false) in
+    let on = chain_other s p _ n w.op (w.kids + 1) go.0 c.in-Some-op_at.sign c.in-Some-op_at.ensures not fits in
+    rw (c.past_token-q-else-eq.ensures, c.add_node-else-eq.ensures.value, c.add_node-else-eq.ensures.work_after)
+    (on, front_set p.rows _ n.rows _ go.0.within.above ∙ go.1 ∙ inv.1, omega (arith, inv.2, length-set c.parse_juxtaposition-in-loop-next.new.work n.rows (pack w.op (w.kids + 1) (n.rows + 1 - p.rows))))
 
 pub parse_juxtaposition-loop-work-init : goal.parse_juxtaposition-loop-work-init
 parse_juxtaposition-loop-work-init t c = let s = c.args.toks.now in let p = c.args.p in let old = c.args.work.now in let ready = c.requires in
@@ -117,9 +114,9 @@ parse_juxtaposition-returns t c = let s = c.args.toks.now in let p = c.args.p in
     let st = run_starts s p old c.parse_atom.new.work _ c.in_ok-q.ensures in
     let work = c.loop-work.work in let q = c.loop-work.q in let kids = c.loop-work.kids in let inv = c.loop-work.invariant in
     let kept : length work ≡ length old = omega (arith, inv.2) in
-    let two : 2 ≤ kids = omega (arith, inv.0.number, c.if-kids-eq1.false) in
+    let two : 2 ≤ kids = omega (arith, inv.0.some, c.if-kids-eq1.false) in
     let room = row_left s p (length old) q.at q.rows q.cites kids ready inv.0.within two in
-    rw (c.add_node.ensures.value, c.add_node.ensures.work_after) (jux_many s p work q kids inv.0 old (sym c.loop-work-test.false ∙ c.operand_at.ensures) (inv.1 ∙ st.1) c.if-kids-eq1.false (omega (arith, room.0, kept)) _ refl)
+    rw (c.add_node.ensures.value, c.add_node.ensures.work_after) (jux_many s p work q kids inv.0 old (sym c.loop-work-test.false ∙ c.operand_at.ensures) (inv.1 ∙ st.1) two (omega (arith, room.0, kept)))
 
 pub parse_juxtaposition-returns-in_err-q-2 : goal.parse_juxtaposition-returns-in_err-q-2
 parse_juxtaposition-returns-in_err-q-2 t c = let s = c.args.toks.now in let p = c.args.p in let old = c.args.work.now in let ready = c.requires in

@@ -14,7 +14,7 @@ abbrev pub decreases-parse_juxtaposition : goal.decreases-parse_juxtaposition
 decreases-parse_juxtaposition l = 4 * (length l.toks.now - l.p.at) + 1
 
 abbrev pub invariant-parse_chain-loop-next : goal.invariant-parse_chain-loop-next
-invariant-parse_chain-loop-next l = Before l.toks l.p l.work l.q × Front l.p.rows l.initial.work l.work × (length l.work ≡ length l.initial.work)
+invariant-parse_chain-loop-next l = Before l.toks l.p l.work l.q l.op l.kids × Front l.p.rows l.initial.work l.work × (length l.work ≡ length l.initial.work)
 
 abbrev pub decreases-parse_chain-loop-next : goal.decreases-parse_chain-loop-next
 decreases-parse_chain-loop-next l = length l.toks - l.q.at
