@@ -211,13 +211,20 @@ fn readings(all: &mut Examples) {
     say(all, Function::Expr, &[b"[1]", &[7; 22]], &format!("refused 14 {}", "07".repeat(22)));
     say(all, Function::Expr, &[b"[1]", &[7; 23]], &format!("ok 23 {}", hex(&one)));
     say(all, Function::Expr, &[b"[1]", &[7; 25]], &format!("ok 23 {}0707", hex(&one)));
+    accepted(all);
+}
+
+/// Texts that are read, with their trees.
+fn accepted(all: &mut Examples) {
     let pair = tree(&[(4, 2, 3), (0, 0, 1), (0, 1, 1)], &["1", "2"]);
     let accepted = [
         ("[1] ∧ [2] ∨ [3]".to_owned(), mixed()),
         ("([1] ⊻ [2]) ⊻ [3]".to_owned(), xor_of_xor()),
         ("[1] ⊻ [2] ⊻ [3]".to_owned(), xor_of_three()),
-        ("(([1]))".to_owned(), one),
+        ("(([1]))".to_owned(), tree(&[(0, 0, 1)], &["1"])),
         ("([1] ⊻ [2])".to_owned(), pair),
+        ("([1] [2]) [3]".to_owned(), tree(&group_first(1, 1), &["1", "2", "3"])),
+        ("[1] ([2] [3])".to_owned(), tree(&group_last(1, 1), &["1", "2", "3"])),
         ("[1 [2]".to_owned(), tree(&[(0, 0, 1)], &["1 [2"])),
         ("[1]".repeat(256), ones(256)),
     ];

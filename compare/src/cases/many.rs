@@ -2,7 +2,7 @@
 
 use super::Cases;
 use super::reading::{ask_near, damaged, write_chain};
-use super::trees::{VALUES, answers, ask_verdicts, random_tree, reads_as, trees_of};
+use super::trees::{VALUES, answers, ask_verdicts, random_tree, reads_back, trees_of};
 use crate::model;
 use crate::oracle::judged_alike;
 use crate::original::conditions::Expr;
@@ -35,7 +35,7 @@ fn judge(cases: &mut Cases, expr: &Expr) {
     let flat = flat(expr);
     let flat_tree = encode(&flat);
     let print = expr.to_string();
-    assert!(reads_as(&print, &flat_tree), "printed, then read by the model: {print}");
+    assert!(reads_back(&tree, &print, &flat_tree), "printed, then read by the model: {print}");
     cases.ask_lent_near(ExprText, &[print.as_bytes()], flat_tree.len());
     let cited = expr.cited();
     for _ in 0..2 {

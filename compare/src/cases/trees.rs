@@ -4,7 +4,8 @@ use std::collections::{HashMap, HashSet};
 
 use super::Cases;
 use crate::groups::group_leads;
-use crate::model::{self, reading::expression};
+use crate::model::reading::expression;
+use crate::model::{self, tree::Node};
 use crate::oracle::{LONGEST_TEXT, LONGEST_VALUE, judged_alike, read};
 use crate::original::conditions::Expr;
 use crate::random::hash;
@@ -44,7 +45,7 @@ impl Judged {
         cases.ask_lent_near(Print, &[&bytes], print.len());
         let flat = flat(expr);
         let flat_bytes = encode(&flat);
-        assert!(reads_as(&print, &flat_bytes), "printed, then read by the model: {print}");
+        assert!(reads_back(&bytes, &print, &flat_bytes), "printed, then read by the model: {print}");
         cases.ask_lent_near(Expr, &[print.as_bytes()], flat_bytes.len());
         let answers = answers(cases, &expr.cited());
         let value = *cases.random.pick(&VALUES);
@@ -78,8 +79,14 @@ pub fn trees_of(text: &str) -> Vec<Expr> {
 }
 
 /// Whether the model reads a print as the tree with these bytes.
-pub fn reads_as(print: &str, tree: &[u8]) -> bool {
+fn reads_as(print: &str, tree: &[u8]) -> bool {
     expression(print).is_ok_and(|node| node.bytes() == tree)
+}
+
+/// Whether the model reads the print of a tree as its flat tree. Of bytes that are no tree nothing is asked: should the original read a
+/// text to such, the answers to that text differ.
+pub fn reads_back(tree: &[u8], print: &str, flat: &[u8]) -> bool {
+    Node::of_bytes(tree).is_none() || reads_as(print, flat)
 }
 
 /// The requests on a tree that need no other text.

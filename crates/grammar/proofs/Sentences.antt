@@ -4,12 +4,12 @@ use Rattle.std.proofs.Common.{◌∙◌, append_assoc, append-nil}
 use Rattle.refusal.specs.declared.Refusal.TheVariants.{Unterminated, EmptyCondition}
 use Rattle.utf8.specs.Utf8.{encode}
 use Rattle.grammar.specs.Expr.{Op, Expr, Exprs, Then, join, none, ◌◂◌, ◌⧺◌, ◌▸◌, Some, Two}
-use Rattle.grammar.proofs.Expr.{append_none, appends_assoc, some_more}
+use Rattle.grammar.proofs.Expr.{append_none, appends_assoc, some_more, two_append}
 use Rattle.grammar.specs.Lex.{Tok, cited, op, cite_begin, cite_end, blank, also, inner, lex, inside}
 use Rattle.grammar.specs.Citable.{holds}
 use Rattle.grammar.proofs.LexPrint.{word_begun, inside_read, inside_open}
 use Rattle.grammar.specs.Parse.{same, parse}
-use Rattle.grammar.specs.Rules.{group, Run, Term, Chain, Expression, Derives, grouped, several, pair, longer, another, lone, chained}
+use Rattle.grammar.specs.Rules.{group, Run, Term, Chain, Expression, Derives, grouped, next, several, pair, longer, another, lone, chained}
 use Rattle.grammar.proofs.Rules.{operand_term, parse_exactly}
 use Rattle.grammar.specs.Sentences.{Links, ends, link}
 
@@ -48,6 +48,11 @@ group_term ts e h = operand_term (grouped ((parse_exactly ts e).0 h))
 -- brackets alone make no node
 pub brackets_make_none : (ts : List Tok) (e : Expr) → parse ts ≡ Ok e → parse (group ts) ≡ Ok e
 brackets_make_none ts e h = (parse_exactly (group ts) e).1 (lone (group_term ts e h))
+
+-- it is one operand behind others, also if it is a Then
+pub group_in_run : (ts us : List Tok) (e : Expr) (es : Exprs) → Derives us (Run es) → Some es → parse ts ≡ Ok e → parse (us ++ group ts) ≡ Ok (Then (es ▸ e))
+group_in_run ts us e es d h k =
+    (parse_exactly (us ++ group ts) (Then (es ▸ e))).1 (lone (several (next d (grouped ((parse_exactly ts e).0 k))) (two_append es (e ◂ none) h tt)))
 
 -- what parses, in parentheses, is one operand in front of an operator, also if it is a node of that operator
 pub leading_group_stays : (o : Op) (ts us : List Tok) (e : Expr) (es : Exprs) → parse ts ≡ Ok e → Links o us es → Some es
