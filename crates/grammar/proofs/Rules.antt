@@ -3,13 +3,13 @@ use Rattle.std.specs.Prelude.{◌≡◌, refl, List, [], ◌∷◌, ◌++◌, Bo
 use Rattle.std.proofs.Common.{sym, ap, ◌∙◌, subst, append_assoc, append-nil}
 use Rattle.std.proofs.lemmas.Bool.{false≢true}
 use Rattle.refusal.specs.Result.{err≢ok}
-use Rattle.grammar.specs.Expr.{Op, And, Or, Xor, Expr, Exprs, Then, none, more, ◌◂◌, ◌⧺◌, ◌▸◌, Some, Two, Wide, Wides}
+use Rattle.grammar.specs.Expr.{Op, And, Or, Xor, Expr, Exprs, none, more, ◌◂◌, ◌⧺◌, ◌▸◌, Some, Two, Wide, Wides}
 use Rattle.grammar.proofs.Expr.{two_some, two_append, wides_append}
 use Rattle.grammar.specs.Lex.{Tok, cited, op, opening, closing}
 use Rattle.grammar.specs.Parse.{same, gather, Side, lead, chain, whole, grow, Left, start, after, Opens, top, within, value, read, parse}
 use Rattle.grammar.specs.Rules.{Phrase, Operand, Run, Term, Chain, Expression, Derives, citation, grouped, empty, next, single, several, pair, longer, another, lone, chained}
 use Rattle.grammar.specs.Steps.{Ends, resume}
-use Rattle.grammar.proofs.Steps.{settled, value_gather, grow_own, grow_other, ok_same}
+use Rattle.grammar.proofs.Steps.{settled, value_gather, gather_two, grow_own, grow_other, ok_same}
 
 -- an operand alone is a term
 pub operand_term : {ts : List Tok} {e : Expr} → Derives ts (Operand e) → Derives ts (Term e)
@@ -17,13 +17,6 @@ unfolding ◌⧺◌
 operand_term d = single (next empty d)
 
 -- What the rules derive is parsed.
-
--- two operands or more are one Then
-gather_two : (es : Exprs) → Two es → gather es ≡ Then es
-unfolding gather
-gather_two (more e (more f es)) h = refl
-gather_two none h = elim h [ ]
-gather_two (more e none) h = elim h [ ]
 
 -- how the tokens of a phrase are read, wherever they stand
 abbrev PhraseRead : List Tok → Phrase → Type 0

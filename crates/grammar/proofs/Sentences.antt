@@ -49,7 +49,7 @@ group_term ts e h = operand_term (grouped ((parse_exactly ts e).0 h))
 pub brackets_make_none : (ts : List Tok) (e : Expr) → parse ts ≡ Ok e → parse (group ts) ≡ Ok e
 brackets_make_none ts e h = (parse_exactly (group ts) e).1 (lone (group_term ts e h))
 
--- it is one operand behind others, also if it is a Then
+-- what parses, in parentheses, is one operand behind others, also if it is a Then
 pub group_in_run : (ts us : List Tok) (e : Expr) (es : Exprs) → Derives us (Run es) → Some es → parse ts ≡ Ok e → parse (us ++ group ts) ≡ Ok (Then (es ▸ e))
 group_in_run ts us e es d h k =
     (parse_exactly (us ++ group ts) (Then (es ▸ e))).1 (lone (several (next d (grouped ((parse_exactly ts e).0 k))) (two_append es (e ◂ none) h tt)))

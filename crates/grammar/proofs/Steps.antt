@@ -1,7 +1,7 @@
 -- How reading goes on where a run of operands ends, and how a side grows. Assumes nothing.
 use Rattle.std.specs.Prelude.{◌≡◌, refl, List, [], ◌∷◌, false, Ok, Result}
 use Rattle.refusal.specs.declared.Refusal.{Refusal}
-use Rattle.grammar.specs.Expr.{Op, And, Or, Xor, Expr, Exprs, join, none, more, ◌◂◌, ◌▸◌, Some}
+use Rattle.grammar.specs.Expr.{Op, And, Or, Xor, Expr, Exprs, Then, join, none, more, ◌◂◌, ◌▸◌, Some, Two}
 use Rattle.grammar.specs.Lex.{Tok, cited, op, opening, closing}
 use Rattle.grammar.specs.Parse.{same, gather, chain, grow, Left, start, after, Opens, top, within, value, read}
 use Rattle.grammar.specs.Steps.{Ends, resume}
@@ -25,6 +25,13 @@ pub value_gather : (l : Left) (run : Exprs) → value l run ≡ value l (gather 
 unfolding value gather
 value_gather start run = refl
 value_gather (after s o) run = refl
+
+-- two operands or more are one Then
+pub gather_two : (es : Exprs) → Two es → gather es ≡ Then es
+unfolding gather
+gather_two (more e (more f es)) h = refl
+gather_two none h = elim h [ ]
+gather_two (more e none) h = elim h [ ]
 
 -- a chain grows by its own operator
 pub grow_own : (o : Op) (es : Exprs) (b : Expr) → grow (chain o es) o b ≡ chain o (es ▸ b)

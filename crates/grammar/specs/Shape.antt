@@ -69,7 +69,7 @@ wide_made (suc zero) es t w = (t, w)
 wide_made (suc (suc zero)) es t w = (t, w)
 wide_made (suc (suc (suc k))) es t w = (t, w)
 
-two_many : (es : Exprs) → 2 ≤ many es → Two es
+pub two_many : (es : Exprs) → 2 ≤ many es → Two es
 unfolding many
 two_many none h = absurd (omega arith)
 two_many (more e none) h = absurd (omega arith)

@@ -14,6 +14,8 @@ use Rattle.grammar.specs.Parse.{same, gather}
 use Rattle.grammar.specs.Rows.{many, span, spans}
 use Rattle.grammar.specs.Reading.{citation_limit}
 use Rattle.grammar.specs.Kinds.{sign_kind}
+use Rattle.grammar.specs.Shape.{two_many}
+use Rattle.grammar.proofs.Steps.{gather_two}
 use Rattle.grammar.specs.declared.NodeKind.{NodeKind}
 use Rattle.grammar.specs.declared.NodeKind.TheVariants as node
 use Rattle.parser.specs.Packed.{pack, node_row, postorder, postorders}
@@ -28,6 +30,11 @@ use Rattle.parser.proofs.Steps.{ends-if, stops_if, atom_cite, atom_group, atom_u
 use Rattle.parser.proofs.Ahead.{from_end, cite_here, open_here, no_operand, close_here, Sign, sign_here, op_inside, cites_cite, cites-any}
 use Rattle.parser.proofs.Orders.{many_append, many_one}
 use Rattle.parser.proofs.Holding.{front_less, front_set, held_cite, held_more, held_node}
+
+-- places with the same numbers are the same
+pub same_pos : (p q : Pos) → p.at ≡ q.at → p.rows ≡ q.rows → p.cites ≡ q.cites → p ≡ q
+same_pos p q a r c =
+    let same : ◌≡◌ {A = Pos} (record { at = p.at; rows = p.rows; cites = p.cites }) (record { at = q.at; rows = q.rows; cites = q.cites }) = rw (a, r, c) in same
 
 -- numbers
 
@@ -163,13 +170,6 @@ gather_one (more e none) h = refl
 gather_one none h = absurd (omega arith)
 gather_one (more e (more f run)) h = absurd (omega arith)
 
--- two or more are one Then
-gather_more : (run : Exprs) → 2 ≤ many run → gather run ≡ Then run
-unfolding gather many
-gather_more none h = absurd (omega arith)
-gather_more (more e none) h = absurd (omega arith)
-gather_more (more e (more f run)) h = refl
-
 -- one operand more
 more_many : (es : Exprs) (e : Expr) → many (es ▸ e) ≡ many es + 1
 more_many es e = many_append es (e ◂ none) ∙ ap (λ x. many es + x) (many_one e)
@@ -217,7 +217,7 @@ module _ (s : List TokenKind) (p : Pos) where
       pub jux_many : 2 ≤ kids → q.rows < length work → JuxSays s p old (noded_rows work p.rows q node.Then kids) (Ok (noded q))
       jux_many k room = (
         Then run.run,
-        subst (λ x. Jux (from s p.at) (from s q.at) x) (gather_more run.run (omega (arith, run.number))) gathered,
+        subst (λ x. Jux (from s p.at) (from s q.at) x) (gather_two run.run (two_many run.run (omega (arith, run.number)))) gathered,
         made_then s p work q node.Then kids run.run run.held run.within run.number k room refl,
         front_set p.rows work q.rows _ run.within.above ∙ f,
       )
@@ -278,6 +278,10 @@ module _ (s : List TokenKind) (p : Pos) where
         },
         g.3,
       )
+
+  -- by an equal number of operands
+  pub recounted : {work : List Row} {q : Pos} {kind : NodeKind} {m n : ℕ} → Before s p work q kind m → m ≡ n → Before s p work q kind n
+  recounted {work} {q} {kind} b h = subst (λ x. Before s p work q kind x) h b
 
   module _ (work : List Row) (q : Pos) (kind : NodeKind) (kids : ℕ) (b : Before s p work q kind kids) where
     pub chain_goes : (new : List Row) (n : Pos) → JuxSays s q work new (Ok n) → After s p new n kind (kids + 1) × Front p.rows work new

@@ -1,4 +1,4 @@
-use mathlib.Core.Path.{◌≡◌, refl, sym, ◌∙◌}
+use mathlib.Core.Path.{◌≡◌, refl, sym, ap, ◌∙◌, subst}
 use native.Mathlib.Omega.{arith}
 use denote.Enum.Bare.{same_true, same_false}
 use Rattle.std.proofs.Common.{rules}
@@ -6,10 +6,12 @@ use Rattle.grammar.specs.contracts.NodeKind.{the_type}
 use lib.ListN.{length, length-set}
 use Rattle.std.proofs.lemmas.Result.{err_from_is_err_and}
 use Rattle.lexer.specs.declared.TokenKind.TheVariants.{Citation}
+use Rattle.parser.specs.declared.Pos.{Pos}
 use Rattle.parser.specs.Packed.{pack}
+use Rattle.parser.specs.States.{Before, past}
 use Rattle.parser.proofs.Ahead.{cites_cite}
 use Rattle.parser.proofs.Holding.{front_set}
-use Rattle.parser.proofs.Turns.{ready_inner, row_left, atom_at_end, atom_none, atom_cited, atom_fails, atom_open, atom_grouped, run_starts, run_breaks, run_goes, jux_one, jux_many, chain_alone, chain_starts, chain_goes, chain_again, chain_other, chain_ends}
+use Rattle.parser.proofs.Turns.{same_pos, ready_inner, row_left, atom_at_end, atom_none, atom_cited, atom_fails, atom_open, atom_grouped, run_starts, run_breaks, run_goes, jux_one, jux_many, chain_alone, chain_starts, recounted, chain_goes, chain_again, chain_other, chain_ends}
 use Prim.Native.Nat.{◌<◌, ◌≤◌, ◌+◌, ◌-◌}
 use Rattle.parser.proofs.+parse.Goals as goal
 
@@ -61,8 +63,10 @@ parse_chain-returns-in_default t c = let s = c.args.toks.now in let p = c.args.p
 
 pub parse_chain-loop-next-init : goal.parse_chain-loop-next-init
 parse_chain-loop-next-init t c = let s = c.args.toks.now in let p = c.args.p in let old = c.args.work.now in
-    let st = chain_starts s p old c.parse_juxtaposition.new.work _ c.in_ok-lead.ensures c.in-Some.first c.in-Some.ensures in
-    rw c.past_token-q.ensures (st.0, refl, refl)
+    let lead = c.in_ok-lead.lead in let q = c.past_token-q.result in let is = c.past_token-q.ensures in
+    let st = chain_starts s p old c.parse_juxtaposition.new.work lead c.in_ok-lead.ensures c.in-Some.first c.in-Some.ensures in
+    let behind = same_pos q (past lead) (omega (arith, ap (λ (x : Pos). x.at) is)) (omega (arith, ap (λ (x : Pos). x.rows) is)) (omega (arith, ap (λ (x : Pos). x.cites) is)) in
+    (subst (λ r. Before s p c.parse_juxtaposition.new.work r c.in-Some.first 1) (sym behind) st.0, refl, refl)
 
 pub parse_chain-returns-in_default-op_at : goal.parse_chain-returns-in_default-op_at
 parse_chain-returns-in_default-op_at t c = let s = c.args.toks.now in let p = c.args.p in let old = c.args.work.now in let ready = c.requires in
@@ -79,7 +83,7 @@ parse_chain-loop-next-preserved-then-eq t c = let s = c.args.toks.now in let p =
     let go = chain_goes s p w.work q w.op w.kids inv.0 c.parse_juxtaposition-in-loop-next.new.work _ c.in_ok-next.ensures in
     let same = same_true the_type (search rules) _ _ (sym c.eq.ensures ∙ c.if-eq.true) in
     let on = chain_again s p _ c.in_ok-next.next w.op (w.kids + 1) go.0 c.in-Some-op_at.sign c.in-Some-op_at.ensures same in
-    rw c.past_token-q-then-eq.ensures (on, go.1 ∙ inv.1, omega (arith, inv.2))
+    rw c.past_token-q-then-eq.ensures (recounted s p on (omega arith), go.1 ∙ inv.1, omega (arith, inv.2))
 
 pub parse_chain-loop-next-preserved : goal.parse_chain-loop-next-preserved
 parse_chain-loop-next-preserved t c = let s = c.args.toks.now in let p = c.args.p in let old = c.args.work.now in let ready = c.requires in
@@ -90,7 +94,7 @@ parse_chain-loop-next-preserved t c = let s = c.args.toks.now in let p = c.args.
     let not = same_false the_type _ _ (sym c.eq.ensures ∙ c.if-eq.false) in
     let on = chain_other s p _ n w.op (w.kids + 1) go.0 c.in-Some-op_at.sign c.in-Some-op_at.ensures not fits in
     rw (c.past_token-q-else-eq.ensures, c.add_node-else-eq.ensures.value, c.add_node-else-eq.ensures.work_after)
-    (on, front_set p.rows _ n.rows _ go.0.within.above ∙ go.1 ∙ inv.1, omega (arith, inv.2, length-set c.parse_juxtaposition-in-loop-next.new.work n.rows (pack w.op (w.kids + 1) (n.rows + 1 - p.rows))))
+    (recounted s p on (omega arith), front_set p.rows _ n.rows _ go.0.within.above ∙ go.1 ∙ inv.1, omega (arith, inv.2, length-set c.parse_juxtaposition-in-loop-next.new.work n.rows (pack w.op (w.kids + 1) (n.rows + 1 - p.rows))))
 
 pub parse_juxtaposition-loop-work-init : goal.parse_juxtaposition-loop-work-init
 parse_juxtaposition-loop-work-init t c = let s = c.args.toks.now in let p = c.args.p in let old = c.args.work.now in let ready = c.requires in
