@@ -8,8 +8,8 @@
  * that is there, and its pointer not NULL. Where a length is 0 the functions at the end of this header take any
  * pointer, NULL too, and put another in its place: call those. The three functions of the library itself,
  * ahb_read, ahb_presence and ahb_verdicts, want a pointer that is not NULL also there.
- * Nothing is allocated, kept after the call, or shared between calls. A call takes at most some 125 KiB of stack
- * (docs/BENCHMARK.md), for the deepest parentheses; usual status lines take up to 18 KiB. */
+ * Nothing is allocated, kept after the call, or shared between calls. A call takes at most some 126 KiB of stack
+ * (docs/BENCHMARK.md), for the deepest parentheses; usual status lines take up to 19 KiB. */
 #ifndef AHB_H
 #define AHB_H
 

@@ -1,7 +1,7 @@
 //! AHB conditions: reading, presence and verdicts, from the proved library `libahb.a`.
 //!
 //! A refusal leaves every lent byte as it was. Nothing is allocated, and nothing is kept between calls. A call takes at
-//! most some 125 KiB of stack, for the deepest parentheses.
+//! most some 126 KiB of stack, for the deepest parentheses.
 
 use std::fmt;
 

@@ -10,20 +10,19 @@
 use line::{Input, LINES_SIZE};
 use std::io::{Read, Write};
 
-// Writes the report of a run.
-fn end_run<W: Write>(input: &Input, to: &mut W) {
-    let mut out = [0u8; LINES_SIZE];
-    let n = input.report(&mut out);
+// Writes the report of a run into a buffer, which is lent so that it is not cleared for each run, and from there; then the next run begins.
+fn end_run<W: Write>(input: &mut Input, out: &mut [u8; LINES_SIZE], to: &mut W) {
+    let n = input.report(out);
     console::write_all(to, &out[..n]);
     console::write_all(to, b"--\n");
+    input.clear();
 }
 
 // So many bytes more, and the reports of the runs that they end.
-fn feed_all<W: Write>(input: &mut Input, bytes: &[u8], to: &mut W) {
+fn feed_all<W: Write>(input: &mut Input, bytes: &[u8], out: &mut [u8; LINES_SIZE], to: &mut W) {
     for b in bytes {
         if *b == 0 {
-            end_run(input, to);
-            *input = Input::new();
+            end_run(input, out, to);
         } else {
             input.feed(*b);
         }
@@ -32,11 +31,12 @@ fn feed_all<W: Write>(input: &mut Input, bytes: &[u8], to: &mut W) {
 
 fn answer_all<R: Read, W: Write>(from: &mut R, to: &mut W) {
     let mut input = Input::new();
+    let mut out = [0u8; LINES_SIZE];
     console::each_piece(from, |piece| {
-        feed_all(&mut input, piece, to);
+        feed_all(&mut input, piece, &mut out, to);
         true
     });
-    end_run(&input, to);
+    end_run(&mut input, &mut out, to);
 }
 
 fn main(rt: HostRuntime) {

@@ -21,8 +21,8 @@ fn is_leap(year: u16) -> bool
 fn month_days(year: u16, month: u8) -> u8
     ensures { result ≡ month_days year month }
 {
-    if month == 2 && is_leap(year) {
-        return 29;
+    if month == 2 {
+        return if is_leap(year) { 29 } else { 28 };
     }
     COMMON.get(usize::from(month)).copied().unwrap_or(0)
 }
@@ -41,19 +41,21 @@ pub fn is_time(hour: u8, minute: u8) -> bool
     hour <= 23 && minute <= 59
 }
 
-// The days of a year before one of its months, without whole weeks.
+// The days of a year before one of its months, without whole weeks. Its code goes into its callers, as that of the two functions below: most of them know the month.
+#[inline(always)]
 fn before_month(year: u16, month: u8) -> u16
     ensures { result ≡ before_month year month % 7 }
 {
     let mut n: u16 = 0;
     for k in 0..month {
-        n = (n + u16::from(month_days(year, k))) % 7;
+        n += u16::from(month_days(year, k));
     }
-    n
+    n % 7
 }
 
 // The last Sunday of a month of 31 days, in one of the first 400 years. Beside whole weeks a year leaves a day, a leap year
 // two.
+#[inline(always)]
 fn last_sunday_in_period(year: u16, month: u8) -> u16
     requires { year < 400 }
     ensures { result ≡ last_sunday year month }
@@ -63,6 +65,7 @@ fn last_sunday_in_period(year: u16, month: u8) -> u16
 }
 
 // The last Sunday of a month of 31 days. Weekdays recur after 400 years.
+#[inline(always)]
 pub fn last_sunday(year: u16, month: u8) -> u32
     ensures { result ≡ last_sunday year month }
 {

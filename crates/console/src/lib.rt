@@ -5,6 +5,7 @@
 ghost use Rattle.std.specs.Prelude.{◌≤◌, length, take};
 ghost use Rattle.std.specs.Io.KnownBytes.{Consumes};
 
+use std::fmt::Display;
 use std::io::{Read, Write};
 
 // Puts bytes that have come at the front of the buffer, and returns how many: none at the end of the input.
@@ -33,4 +34,9 @@ pub fn each_piece<R: Read, F: FnMut(&[u8]) -> bool>(input: &mut R, mut each: F)
 // Writes all of the bytes. No clause says which were written: std says nothing of a write that fails.
 pub fn write_all<W: Write>(out: &mut W, bytes: &[u8]) {
     let _ = out.write_all(bytes);
+}
+
+// Writes what prints as a text, as `format_args!` does. It promises as much.
+pub fn print<W: Write, T: Display + Drop>(out: &mut W, text: T) {
+    let _ = write!(out, "{text}");
 }

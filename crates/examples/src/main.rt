@@ -23,7 +23,7 @@ fn say_byte<W: Write>(out: &mut W, b: u8) {
     if b.is_ascii_graphic() {
         console::write_all(out, &[b]);
     } else {
-        let _ = write!(out, "\\x{b:02x}");
+        console::print(out, format_args!("\\x{b:02x}"));
     }
 }
 
@@ -35,7 +35,7 @@ fn say_text<W: Write>(out: &mut W, s: &[u8]) {
         [] => say(out, "\"\""),
         [first, ..] if n >= 100 => {
             say_byte(out, *first);
-            let _ = write!(out, " {n} times");
+            console::print(out, format_args!(" {n} times"));
         }
         _ => {
             for b in s {
@@ -47,7 +47,7 @@ fn say_text<W: Write>(out: &mut W, s: &[u8]) {
 
 fn say_refusal<W: Write>(out: &mut W, why: Refusal) {
     let code = u8::from(why);
-    let _ = writeln!(out, " refused {code}");
+    console::print(out, format_args!(" refused {code}\n"));
 }
 
 // An answer by its name, or the refusal.
@@ -55,7 +55,7 @@ fn say_answer<W: Write, T: Copy + Debug>(out: &mut W, answer: Result<T, Refusal>
     match answer {
         Err(why) => say_refusal(out, why),
         Ok(said) => {
-            let _ = writeln!(out, " {said:?}");
+            console::print(out, format_args!(" {said:?}\n"));
         }
     }
 }
@@ -78,7 +78,7 @@ fn registered<W: Write>(out: &mut W, text: &[u8]) {
         Err(why) => say_refusal(out, why),
         Ok(is) => {
             let answer = yes_or_no(is);
-            let _ = writeln!(out, " {answer}");
+            console::print(out, format_args!(" {answer}\n"));
         }
     }
 }
@@ -90,11 +90,11 @@ fn kind<W: Write>(out: &mut W, text: &[u8]) {
 }
 
 fn say_bounds<W: Write>(out: &mut W, low: u64, high: Option<u64>) {
-    let _ = write!(out, " low {low} high ");
-    let _ = match high {
-        Some(high) => writeln!(out, "{high}"),
-        None => writeln!(out, "n"),
-    };
+    console::print(out, format_args!(" low {low} high "));
+    match high {
+        Some(high) => console::print(out, format_args!("{high}\n")),
+        None => say(out, "n\n"),
+    }
 }
 
 fn paket<W: Write>(out: &mut W, text: &[u8]) {
@@ -118,7 +118,7 @@ fn say_status<W: Write>(out: &mut W, kind: StatusKind) {
     } else {
         "not checkable"
     };
-    let _ = writeln!(out, " code {code} word {word} {checkable}");
+    console::print(out, format_args!(" code {code} word {word} {checkable}\n"));
 }
 
 fn status<W: Write>(out: &mut W, word: &[u8]) {
@@ -135,7 +135,7 @@ fn encoding<W: Write>(out: &mut W, s: &[u8]) {
     say_text(out, s);
     if utf8::is_utf8(s) {
         let n = utf8::count(s);
-        let _ = writeln!(out, " {n}");
+        console::print(out, format_args!(" {n}\n"));
     } else {
         say(out, " no\n");
     }
@@ -143,12 +143,12 @@ fn encoding<W: Write>(out: &mut W, s: &[u8]) {
 
 fn white<W: Write>(out: &mut W, code: u32) {
     let answer = yes_or_no(utf8::is_white(code));
-    let _ = writeln!(out, "white {code:04x} {answer}");
+    console::print(out, format_args!("white {code:04x} {answer}\n"));
 }
 
 fn truth<W: Write>(out: &mut W, is: bool) {
     let code = u8::from(Truth::from(is));
-    let _ = writeln!(out, "truth {code}");
+    console::print(out, format_args!("truth {code}\n"));
 }
 
 // Asks for each of the words, with one separator between two.

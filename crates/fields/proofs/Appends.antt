@@ -1,13 +1,11 @@
--- Bytes written one after another: one byte, nothing, two texts, a text as a whole. Assumes nothing.
+-- Bytes written one after another: one byte, nothing, two texts, a text byte by byte. Assumes nothing.
 use mathlib.Core.Path.{◌≡◌, refl, sym, ap, ◌∙◌, subst}
 use mathlib.Core.List.{List, [], ◌∷◌, ◌++◌, append_assoc, append-nil}
 use Prim.Native.Nat.{ℕ, zero, suc, ◌+◌, ◌-◌, ◌/◌, ◌%◌, ◌≤◌, ◌<◌}
 use native.Mathlib.Numerals.{add-one}
 use native.Mathlib.Omega.{arith}
-use lib.ListN.{length, take, drop, set, length-append}
-use lib.Seq.{take-suc-set, drop-set-lt, drop-drop}
-use borrow.Rule.Slice.PartMut.{put_mid}
-use Rattle.std.proofs.lemmas.Slice.{take-put_mid, drop-put_mid}
+use lib.ListN.{length, get_or, take, drop, set, length-append}
+use lib.Seq.{take-suc, take-suc-set, take_all, drop-set-lt, drop-drop}
 use Rattle.std.specs.Int.{w16, to_le_bytes}
 use Rattle.grammar.specs.Bytes.{two_bytes}
 use Rattle.fields.specs.Appended.{Appended}
@@ -56,15 +54,17 @@ two_said v h =
     let e : v / 256 % 256 ≡ v / 256 = omega arith in
     ap (λ x. (v % 256) ∷ x ∷ []) e
 
--- a text that was copied over the bytes from `at` on
-pub copied : (text old copy : List ℕ) (at : ℕ) → at + length text ≤ length old → copy ≡ text → Appended text at old (put_mid at (at + length text - at) old copy) (at + length text)
-copied text old copy at h e =
-    let size : at + length text - at ≡ length copy = omega (arith, ap length e) in
-    rw e (record {
-      ends = refl;
-      has = take-put_mid at _ old text (at + length text) refl (omega arith);
-      rest = drop-put_mid at _ old text (at + length text) (omega arith) (omega arith) (omega arith);
-    })
+-- a loop over the bytes of a text, after one turn more
+pub text_next : (text base out : List ℕ) (at i : ℕ) → i < length text → at + i < length out → Appended (take i text) at base out (at + i)
+    → Appended (take (i + 1) text) at base (set out (at + i) (get_or text i 0)) (at + (i + 1))
+text_next text base out at i h l k =
+    let one : at + i + 1 ≡ at + (i + 1) = omega arith in
+    let more : take i text ++ (get_or text i 0 ∷ []) ≡ take (i + 1) text = rw add-one (sym (take-suc text i 0 h)) in
+    rw one at (same more (both k (byte out (at + i) (get_or text i 0) l)))
+
+-- after the last
+pub text_done : (text base out : List ℕ) (at i : ℕ) → i ≡ length text → Appended (take i text) at base out (at + i) → Appended text at base out (at + length text)
+text_done text base out at i e k = rw e at (same (take_all i text (omega (arith, e))) k)
 
 -- the length of two bytes
 pub two_size : (v : ℕ) → length (two_bytes v) ≡ 2

@@ -107,6 +107,10 @@ module _ (s : List ℕ) (i : ℕ) (h : i < length s) where
   unfolding is_white
   space_on e = run_on true s i (get_or s i 0) 1 (ascii-at s i h (omega arith)) (ap (λ (x : ℕ). agree (is_white x) true) e)
 
+  pub space_off : get_or s i 0 ≡ blank_char → i ≡ run_end false s i
+  unfolding is_white
+  space_off e = run_off false s i (get_or s i 0) 1 (ascii-at s i h (omega arith)) (ap (λ (x : ℕ). agree (is_white x) false) e)
+
   pub visible_on : 0x20 < get_or s i 0 → get_or s i 0 < 0x80 → run_end false s (i + 1) ≡ run_end false s i
   visible_on l m = run_on false s i (get_or s i 0) 1 (ascii-at s i h m) (ap (λ (x : Bool). agree x false) (white_visible (get_or s i 0) l m))
 

@@ -106,10 +106,10 @@ pub struct Span {
     pub end: usize,
 }
 
-// Where the text of a citation stands: its first byte's number, and how many bytes it has.
+// Where the text of a citation stands: its first byte's number, and how many bytes it has. The number has 32 bits, since `write_tree` takes places in texts of any length.
 #[derive(Clone, Copy)]
 pub struct Place {
-    pub from: u16,
+    pub from: u32,
     pub size: u16,
 }
 
@@ -183,22 +183,51 @@ fn past_eights(text: &[u8], at: usize) -> usize
     text.len() - rest.len()
 }
 
-// The place after the white space from `at` on: spaces first.
+// The place after the white space from `at` on: whole eights of spaces first, then one by one.
+fn spaces_end(text: &[u8], at: usize) -> usize
+    requires { at ≤ length text.now }
+    ensures { result ≡ run_end true text.now at }
+{
+    for j in past_eights(text, at)..text.len() {
+        if text[j] != b' ' {
+            return other_end(text, j);
+        }
+    }
+    text.len()
+}
+
+// So many spaces are few.
+const FEW_SPACES: usize = 8;
+
+// The place after the white space from `at` on: most often a visible character stands there, or few spaces and then one.
 pub fn white_end(text: &[u8], at: usize) -> usize
     ensures { result ≡ run_end true text.now at }
 {
     if text.len() <= at {
         return at;
     }
-    if text[at] != b' ' {
-        return other_end(text, at);
-    }
-    for i in past_eights(text, at)..text.len() {
-        if text[i] != b' ' {
-            return other_end(text, i);
+    let few = text.len().min(at + FEW_SPACES);
+    for i in at..few {
+        if text[i] == b' ' {
+            continue;
         }
+        if text[i].is_ascii_graphic() {
+            return i;
+        }
+        return other_end(text, i);
     }
-    text.len()
+    spaces_end(text, few)
+}
+
+// The place after the characters from `at` on that are not white space, where no visible ASCII one stands: most often a space, and then it is `at`.
+fn other_word_end(text: &[u8], at: usize) -> usize
+    requires { at < length text.now }
+    ensures { result ≡ run_end false text.now at }
+{
+    if text[at] == b' ' {
+        return at;
+    }
+    run_while(text, at, |c| !utf8::is_white(c))
 }
 
 // The place after the characters from `at` on that are not white space: visible ASCII ones first.
@@ -207,7 +236,7 @@ pub fn word_end(text: &[u8], at: usize) -> usize
 {
     for i in at..text.len() {
         if !text[i].is_ascii_graphic() {
-            return run_while(text, i, |c| !utf8::is_white(c));
+            return other_word_end(text, i);
         }
     }
     at.max(text.len())
@@ -298,7 +327,7 @@ fn place_of(from: usize, end: usize) -> Place
     ensures { result ≡ placed from (end - from) }
 {
     Place {
-        from: from as u16,
+        from: from as u32,
         size: (end - from) as u16,
     }
 }

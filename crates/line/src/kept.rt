@@ -1,11 +1,12 @@
 // What is kept of an input, byte by byte: its first three lines, as far as they decide.
-ghost use Rattle.std.specs.Prelude.{◌≡◌, ℕ, List, [], ◌≤◌, leb, length, take};
+ghost use Rattle.std.specs.Prelude.{◌≡◌, ℕ, List, [], ◌++◌, ◌-◌, ◌≤◌, leb, length, take};
 ghost use Rattle.fields.specs.Appended.{Appended};
 ghost use Rattle.line.specs.Lines.{lines};
 ghost use Rattle.line.specs.Sizes.{longest_report};
 ghost use Rattle.line.specs.Input.{longer, next_row, no_input, Kept, fed, fed_all};
 
 use super::write_lines;
+use fields::put_text;
 use std::marker::Model;
 use tree::TREE_LIMIT;
 
@@ -63,6 +64,14 @@ impl<const N: usize> Line<N> {
             self.len += 1;
         }
     }
+
+    // More bytes, the first of them as far as there is room.
+    pub fn extend(&mut self, bytes: &[u8])
+        ensures { self.new ≡ self.old ++ take (N - length self.old) bytes.now }
+    {
+        let part = text::head(bytes, N - self.len);
+        self.len = put_text(part, &mut self.bytes, self.len);
+    }
 }
 
 // The lines, and the number of the one that comes next, from 0 and at most 3: a count, as the definition `next_row` has it.
@@ -90,6 +99,16 @@ impl Input {
             answers: Line::new(),
             value: Line::new(),
         }
+    }
+
+    // No line, and no byte of one.
+    pub fn clear(&mut self)
+        ensures { self.new ≡ no_input }
+    {
+        self.row = 0;
+        self.status.clear();
+        self.answers.clear();
+        self.value.clear();
     }
 
     // Whether the third line has ended.

@@ -10,6 +10,7 @@ use formats::FormatVerdict;
 use refusal::Refusal;
 use status::StatusKind;
 use std::io::Write;
+use std::mem;
 use tree::CITATION_LIMIT;
 
 // What a request is answered: a number, a verdict, a Paket's bounds, or the first bytes of its text.
@@ -222,7 +223,9 @@ impl Answers {
     }
 
     // Ends the line of an answer. Writes what waits where there is no room for another answer.
-    pub fn end_line<W: Write>(&mut self, to: &mut W) {
+    pub fn end_line<W: Write>(&mut self, to: &mut W)
+        ensures { self.new.len ≡ 0 }
+    {
         let end = put_byte(&mut self.bytes, self.start + self.len, b'\n');
         self.len = 0;
         self.start = end;
@@ -232,9 +235,11 @@ impl Answers {
         }
     }
 
-    // Writes what waits.
-    pub fn flush<W: Write>(&mut self, to: &mut W) {
-        console::write_all(to, &self.bytes[..self.start]);
-        self.start = 0;
+    // Writes what waits; then nothing waits, and the answer that is made stays as long as it is.
+    pub fn flush<W: Write>(&mut self, to: &mut W)
+        ensures { (self.new.start ≡ 0) × (self.new.len ≡ self.old.len) }
+    {
+        let waiting = mem::take(&mut self.start);
+        console::write_all(to, &self.bytes[..waiting]);
     }
 }

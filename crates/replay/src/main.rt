@@ -72,34 +72,34 @@ impl Exchange {
         }
     }
 
-    // Answers the line that is held.
-    fn end_line<W: Write>(&mut self, to: &mut W) {
-        respond(self.line.as_slice(), &mut self.fields, &mut self.answers);
-        self.answers.end_line(to);
-        self.line.clear();
-    }
-
-    // One byte more. Of a line that is too long the first bytes are held.
-    fn feed<W: Write>(&mut self, b: u8, to: &mut W) {
-        if b == b'\n' {
-            self.end_line(to);
+    // Answers the line that ends with these bytes; what is held stands in front of them. Most lines come whole, and those are not copied.
+    fn end_line<W: Write>(&mut self, rest: &[u8], to: &mut W) {
+        if self.line.as_slice().is_empty() {
+            respond(rest, &mut self.fields, &mut self.answers);
         } else {
-            self.line.push(b);
+            self.line.extend(rest);
+            respond(self.line.as_slice(), &mut self.fields, &mut self.answers);
+            self.line.clear();
         }
+        self.answers.end_line(to);
     }
 
-    // So many bytes more, and the answers to the lines that they end.
+    // So many bytes more, and the answers to the lines that they end. Of a line that is too long the first bytes are held.
     fn feed_all<W: Write>(&mut self, input: &[u8], to: &mut W) {
-        for b in input {
-            self.feed(*b, to);
+        let mut parts = input.split(|b| *b == b'\n');
+        let mut last: &[u8] = parts.next().unwrap_or(&[]);
+        for part in parts {
+            self.end_line(last, to);
+            last = part;
         }
+        self.line.extend(last);
         self.answers.flush(to);
     }
 
     // The end of the input ends its last line too.
     fn end<W: Write>(&mut self, to: &mut W) {
         if !self.line.as_slice().is_empty() {
-            self.end_line(to);
+            self.end_line(&[], to);
             self.answers.flush(to);
         }
     }

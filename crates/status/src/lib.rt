@@ -29,19 +29,39 @@ impl From<StatusKind> for u8 {
     ghost from_gives = { λ kind code. code ≡ code_of kind };
 
     fn from(kind: StatusKind) -> u8 {
-        match kind {
-            StatusKind::Muss => 0,
-            StatusKind::Soll => 1,
-            StatusKind::Kann => 2,
-            StatusKind::X => 3,
-            StatusKind::M => 4,
-            StatusKind::S => 5,
-            StatusKind::K => 6,
-        }
+        kind.code()
     }
 }
 
 impl StatusKind {
+    pub const MUSS: u8 = 0;
+
+    pub const SOLL: u8 = 1;
+
+    pub const KANN: u8 = 2;
+
+    pub const X_CODE: u8 = 3;
+
+    pub const M_CODE: u8 = 4;
+
+    pub const S_CODE: u8 = 5;
+
+    pub const K_CODE: u8 = 6;
+
+    pub fn code(self) -> u8
+        ensures { result ≡ code_of self }
+    {
+        match self {
+            StatusKind::Muss => StatusKind::MUSS,
+            StatusKind::Soll => StatusKind::SOLL,
+            StatusKind::Kann => StatusKind::KANN,
+            StatusKind::X => StatusKind::X_CODE,
+            StatusKind::M => StatusKind::M_CODE,
+            StatusKind::S => StatusKind::S_CODE,
+            StatusKind::K => StatusKind::K_CODE,
+        }
+    }
+
     // All kinds, in the order of their codes.
     pub const ALL: [StatusKind; 7] = [
         StatusKind::Muss,

@@ -48,9 +48,9 @@ fn say_differing<W: Write>(out: &mut W, year: u16, month: u8, day: u8) {
     let sign = if year < ERA_START { "-" } else { "" };
     let number = unsigned(year);
     let answered = calendar::last_sunday(year, month);
-    let _ = writeln!(
+    console::print(
         out,
-        "{sign}{number} month {month}: counted {day}, answered {answered}"
+        format_args!("{sign}{number} month {month}: counted {day}, answered {answered}\n"),
     );
 }
 
@@ -137,8 +137,8 @@ fn look_at_years<W: Write>(out: &mut W) -> Seen
 fn main(rt: HostRuntime) {
     let mut out = rt.stdout();
     let Seen { dates, differ } = look_at_years(&mut out);
-    let _ = writeln!(
-        out,
-        "{dates} switch dates of the years -999 to 9999, {differ} differ"
+    console::print(
+        &mut out,
+        format_args!("{dates} switch dates of the years -999 to 9999, {differ} differ\n"),
     );
 }

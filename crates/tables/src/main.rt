@@ -9,7 +9,7 @@ use std::io::Write;
 fn whites<W: Write>(out: &mut W) {
     for code in 0u32..0x110000 {
         if utf8::is_white(code) {
-            let _ = writeln!(out, "white {code:06x}");
+            console::print(out, format_args!("white {code:06x}\n"));
         }
     }
 }
@@ -22,7 +22,7 @@ fn say_word<W: Write>(out: &mut W, kind: StatusKind) {
     } else {
         "sender"
     };
-    let _ = writeln!(out, "word {word} {code} {checker}");
+    console::print(out, format_args!("word {word} {code} {checker}\n"));
 }
 
 fn words<W: Write>(out: &mut W) {

@@ -23,18 +23,18 @@ pub loop-n-preserved : goal.loop-n-preserved
 loop-n-preserved c = let f = c.args.field.now in
     let l = c.loop-n in
     let next : 2 * l.n + 2 ≡ 2 * (l.n + 1) = omega arith in
-    let put = pairs_put f (2 * l.n) (omega arith) l.out l.n c.in-Some-Some.high c.in-Some-Some.low (omega arith) (sym c.digit_value.ensures.value ∙ c.in-Some-Some.is-0) (sym c.digit_value-in-loop-n.ensures.value ∙ c.in-Some-Some.is-1) in
+    let put = pairs_put f (2 * l.n) (omega arith) l.out l.n c.in-Some.high c.in-Some-digit_value.low (omega arith) (sym c.digit_value.ensures.value ∙ c.in-Some.is) (sym c.digit_value-in-loop-n.ensures.value ∙ c.in-Some-digit_value.is) in
     (rw next at put ∙ l.invariant.0, drop-set-lt (l.n + 1) l.out l.n _ (omega arith) ∙ further l.out c.args.out.now l.n l.invariant.1)
 
 pub returns-in_default : goal.returns-in_default
 returns-in_default c = let f = c.args.field.now in
     let l = c.loop-n in
-    done f c.args.out.now l.out l.n (omega arith) (omega arith) (pairs_step f (2 * l.n) (omega arith) ∙ rw (sym c.digit_value.ensures.value ∙ c.in_default.is-0, sym c.digit_value-in-loop-n.ensures.value ∙ c.in_default.is-1)) l.invariant
+    done f c.args.out.now l.out l.n (omega arith) (omega arith) (pairs_step f (2 * l.n) (omega arith) ∙ rw (sym c.digit_value.ensures.value ∙ c.in_default.is)) l.invariant
 
-pub returns-in_default-2 : goal.returns-in_default-2
-returns-in_default-2 c = let f = c.args.field.now in
+pub returns-in_default-digit_value : goal.returns-in_default-digit_value
+returns-in_default-digit_value c = let f = c.args.field.now in
     let l = c.loop-n in
-    done f c.args.out.now l.out l.n (omega arith) (omega arith) (pairs_step f (2 * l.n) (omega arith) ∙ rw (sym c.digit_value.ensures.value ∙ c.in_default.is-0)) l.invariant
+    done f c.args.out.now l.out l.n (omega arith) (omega arith) (pairs_step f (2 * l.n) (omega arith) ∙ rw (sym c.digit_value.ensures.value ∙ c.in-Some.is, sym c.digit_value-in-loop-n.ensures.value ∙ c.in_default-digit_value.is)) l.invariant
 
 pub returns : goal.returns
 returns c = let f = c.args.field.now in

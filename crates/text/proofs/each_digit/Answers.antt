@@ -5,7 +5,7 @@ use Rattle.std.proofs.lemmas.Iterator.{YieldsList-from_slice}
 use Rattle.std.proofs.lemmas.Iterator.Search.{all_from_yields_List}
 use Rattle.text.specs.Digits.{is_digit}
 use Rattle.text.proofs.Laws.{all_is_all}
-use Rattle.text.proofs.all_digits.Goals as goal
+use Rattle.text.proofs.each_digit.Goals as goal
 
 pub returns : goal.returns
 returns c = let s = c.args.s.now in
