@@ -36,7 +36,7 @@ pub fn write_all<W: Write>(out: &mut W, bytes: &[u8]) {
     let _ = out.write_all(bytes);
 }
 
-// Writes what prints as a text, as `format_args!` does. It promises as much.
+// Writes a text that is formatted, as `format_args!` makes it. No clause says which bytes were written, as of `write_all`.
 pub fn print<W: Write, T: Display + Drop>(out: &mut W, text: T) {
     let _ = write!(out, "{text}");
 }
